@@ -1,0 +1,53 @@
+-- The answers of 01's table by name.
+use Prim.Native.Nat.{ℕ}
+
+abbrev pub accepted : ℕ
+accepted = 0
+
+-- 'fewer than 52 bytes remain, or no 13, 10 at 51 and 52'
+abbrev pub brokenLine : ℕ
+brokenLine = 1
+
+-- 'code and variant not in the table'
+abbrev pub unknownRecord : ℕ
+unknownRecord = 2
+
+-- 'record not allowed at this place, missing name included'
+abbrev pub misplacedRecord : ℕ
+misplacedRecord = 3
+
+-- 'field's form, blank or not blank against the rule'
+abbrev pub wrongForm : ℕ
+wrongForm = 4
+
+-- 'value, zero or above its maximum'
+abbrev pub wrongValue : ℕ
+wrongValue = 5
+
+-- 'account: eight digits, eleven check, or ordering account of seven'
+abbrev pub wrongAccount : ℕ
+wrongAccount = 6
+
+-- 'differs from what came before: group, sequence, own account, name code 2 in group 10, day'
+abbrev pub differs : ℕ
+differs = 7
+
+-- 'item 100,001, column 1; batch total above its maximum, column 10'
+abbrev pub aboveMaximum : ℕ
+aboveMaximum = 8
+
+-- 'trailer number is wrong'
+abbrev pub wrongTrailer : ℕ
+wrongTrailer = 9
+
+-- 'no bytes remain before the file trailer'
+abbrev pub endsEarly : ℕ
+endsEarly = 10
+
+-- 'a byte, or a record to write, after the file trailer'
+abbrev pub afterTrailer : ℕ
+afterTrailer = 11
+
+-- 'a state handed in' beyond 01's limits
+abbrev pub beyondLimits : ℕ
+beyondLimits = 24

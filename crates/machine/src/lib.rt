@@ -1,0 +1,1 @@
+// No code: lists, digits, and a reader of lines whatever a line is (specs/, proofs/).
