@@ -5,3 +5,4 @@ pub mod Language
 pub mod Answers
 pub mod Tests
 pub mod Cutting
+pub mod Statements

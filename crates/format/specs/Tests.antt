@@ -12,6 +12,7 @@ use Rattle.format.specs.Answers.{wrongValue, wrongAccount, differs, abov
 use Rattle.format.specs.declared.Kind.{Kind}
 use Rattle.format.specs.declared.Kind.the-variants.{FileHeader, BatchHeaderB, OrderingParty, Transaction, BatchTrailer}
 use Rattle.format.specs.declared.Group.{Group}
+use Rattle.format.specs.declared.TypeRead.{TypeRead}
 
 -- a test of a value, and the answer where it fails
 pub data Test : Type 0 where
@@ -71,9 +72,13 @@ orderingPartyTests g x = (
   ),
 )
 
+-- 'A type that isn't one of the six is 5, a type of the other group 7'
+abbrev pub typeTests : Group → TypeRead → List Test
+typeTests g t = test (isType t) wrongValue ∷ test (isTypeIn g t) differs ∷ []
+
 abbrev pub transactionTests : Group → ℕ → Fields Transaction → Tests (layout Transaction)
 transactionTests g own x = (
-  test (isType (typeOf (type x))) wrongValue ∷ test (isTypeIn g (typeOf (type x))) differs ∷ [],
+  typeTests g (typeOf (type x)),
   (
     test (inRange 1 maxAmount (amount x)) wrongValue ∷ [],
     (
@@ -96,5 +101,5 @@ batchTrailerTests total accounts count x = (
 )
 
 -- the maxima of a batch, after the fields of a transaction: 'item 100,001, column 1; batch total above its maximum, column 10'
-abbrev pub transactionMaxima : ℕ → ℕ → Fields Transaction → List Check
-transactionMaxima count total x = check (ltb count maxItems) aboveMaximum 1 ∷ check (leb (total + amount x) maxTotal) aboveMaximum 10 ∷ []
+abbrev pub batchMaxima : ℕ → ℕ → ℕ → List Check
+batchMaxima count total next = check (ltb count maxItems) aboveMaximum 1 ∷ check (leb (total + next) maxTotal) aboveMaximum 10 ∷ []

@@ -39,3 +39,36 @@ pub enum TypeRead {
     Of(TransactionType),
     NoType,
 }
+
+// What the first five characters of a line stand for.
+pub enum Code {
+    Of(Kind),
+    Unknown,
+}
+
+// The answers of 01's table.
+pub const ACCEPTED: u8 = 0;
+
+pub const BROKEN_LINE: u8 = 1;
+
+pub const UNKNOWN_RECORD: u8 = 2;
+
+pub const MISPLACED_RECORD: u8 = 3;
+
+pub const WRONG_FORM: u8 = 4;
+
+pub const WRONG_VALUE: u8 = 5;
+
+pub const WRONG_ACCOUNT: u8 = 6;
+
+pub const DIFFERS: u8 = 7;
+
+pub const ABOVE_MAXIMUM: u8 = 8;
+
+pub const WRONG_TRAILER: u8 = 9;
+
+pub const ENDS_EARLY: u8 = 10;
+
+pub const AFTER_TRAILER: u8 = 11;
+
+pub const BEYOND_LIMITS: u8 = 24;

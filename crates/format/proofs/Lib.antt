@@ -1,0 +1,9 @@
+pub mod Checks
+pub mod Reader
+pub mod Link
+pub mod Cutting
+pub mod Sound
+pub mod Complete
+pub mod Live
+pub mod One
+pub mod Theorem
