@@ -1,0 +1,266 @@
+-- The value of digits, and numeric fields by what the digits are. Assumes nothing.
+use Prim.Native.Nat.{ℕ, suc, _+_, _-_, _*_, _<_, _^_, _≤_}
+use mathlib.Core.Path.{_≡_, refl, sym, ap, _∙_, subst}
+use mathlib.Core.List.{List, [], _∷_}
+use mathlib.Core.Bool.{Bool, true, false, not, _&&_}
+use native.Mathlib.Omega.{arith}
+use native.Mathlib.Nat.{pow-le-pow-right}
+use native.Mathlib.Numerals.{add-one}
+use borrow.Author.Needs.{needs}
+use borrow.Author.Tests.{le-leb, lt-leb, leb-true, leb-false, lt-ltb, le-ltb, eq-eqb, ne-eqb}
+use lib.ListN.{length, getD, drop, drop-of-length-le}
+use lib.Seq.{drop-cons}
+use lib.Dec.{T, lit<, eqb, leb, ltb}
+use mir.Val.{Fits}
+use mir.Syntax.{w64}
+use Rattle.machine.specs.Lists.{pick, all, isDigit, inRange}
+use Rattle.machine.specs.Digits.{valueAfter, valueOf}
+use Rattle.format.specs.Tests.{Test, test}
+use Rattle.field.specs.declared.numbers.Digits.{Digits}
+use Rattle.field.specs.declared.numbers.Numeric.{Numeric}
+use Rattle.field.specs.Rows.{firstNo, fieldNo}
+use Rattle.field.specs.Leaf.{noDigits, digitsOf, wrongNo, rightOf, numericBy, numericNo, numericOf, rangedBy, rangeTests}
+use Rattle.field.proofs.Picks.{picks, told}
+
+-- ## The value of digits
+
+pub record Reading (s : List ℕ) (v i : ℕ) : Type 0 where
+  pub within : i ≤ length s
+  pub digits : all isDigit (drop i s) ≡ true
+  pub small : v < 10 ^ i
+  pub value : valueAfter v (drop i s) ≡ valueOf s
+
+pub reading-none : (s : List ℕ) → all isDigit s ≡ true → Reading s 0 0
+reading-none s h = record { within = omega arith; digits = h; small = lit< tt; value = refl }
+
+pub and-first : (a b : Bool) → (a && b) ≡ true → a ≡ true
+and-first true b h = refl
+and-first false b h = h
+
+pub and-second : (a b : Bool) → (a && b) ≡ true → b ≡ true
+and-second true b h = h
+and-second false b h = absurd (subst (λ (t : Bool). T (not t)) h tt)
+
+module _ {s : List ℕ} {v i : ℕ} (r : Reading s v i) where
+  pub reading-all : length s ≤ i → v ≡ valueOf s
+  unfolding valueAfter
+  reading-all l = rw (← r .value, drop-of-length-le s l)
+
+  module _ (h : i < length s) where
+    here : (isDigit (getD s i 0) && all isDigit (drop (suc i) s)) ≡ true
+    here = rw (drop-cons s i 0 h) at (r .digits)
+
+    is-digit : isDigit (getD s i 0) ≡ true
+    is-digit = and-first _ _ here
+
+    pub digit-low : 48 ≤ getD s i 0
+    digit-low = leb-true 48 _ (and-first _ _ is-digit)
+
+    pub digit-high : getD s i 0 ≤ 57
+    digit-high = leb-true _ 57 (and-second (leb 48 (getD s i 0)) _ is-digit)
+
+    pub reading-more : {d : ℕ} → d ≡ getD s i 0 - 48 → Reading s (v * 10 + d) (i + 1)
+    unfolding valueAfter
+    reading-more e =
+        record {
+          within = omega arith;
+          digits = rw add-one (and-second (isDigit (getD s i 0)) _ here);
+          small = rw add-one (omega (arith, r, digit-high));
+          value = rw (add-one, e) (sym (rw (← r .value, drop-cons s i 0)));
+        }
+
+    -- with at most 18 digits the next value fits a u64
+    module _ (k : length s ≤ 18) where
+      room : v < 10 ^ 17
+      room =
+          let q : i ≤ 17 = omega arith in
+          let p = pow-le-pow-right {n = 10} (lit< tt) q in
+          omega (arith, r, p)
+
+      pub times-fits : Fits w64 (v * 10)
+      times-fits = omega (arith, room)
+
+      pub plus-fits : {d : ℕ} → d ≡ getD s i 0 - 48 → Fits w64 (v * 10 + d)
+      plus-fits e = omega (arith, room, digit-high)
+
+pub ruleset readings = (reading-none, reading-all, reading-more, digit-low, digit-high, times-fits, plus-fits, needs)
+
+-- ## What digits are
+
+module _ (l : List ℕ) where
+  pub digits-long : 18 < length l → noDigits ≡ digitsOf l
+  unfolding digitsOf pick
+  digits-long h = rw (lt-leb (length l) 18 h)
+
+  module _ (h : length l ≤ 18) where
+    pub digits-not : all isDigit l ≡ false → noDigits ≡ digitsOf l
+    unfolding digitsOf pick
+    digits-not e = rw (le-leb (length l) 18 h, e)
+
+    pub digits-are : {v : ℕ} → all isDigit l ≡ true → v ≡ valueOf l → _≡_ {A = Digits} (record { ok = true; value = v }) (digitsOf l)
+    unfolding digitsOf pick
+    digits-are e k = rw (le-leb (length l) 18 h, e, k)
+
+pub ruleset digits = (digits-long, digits-not, digits-are, told, needs)
+
+pub over : {A : Type 0} (f : List ℕ → A) {p q : List ℕ} {r : A} → p ≡ q → r ≡ f p → r ≡ f q
+over f d e = e ∙ ap f d
+
+-- ## Tests, with the value where all hold
+
+-- every test has a number to answer
+abbrev pub Numbered : List Test → Type 0
+Numbered [] = Unit {0}
+Numbered (test b n ∷ ts) = T (not (eqb n 0)) × Numbered ts
+
+abbrev pub firstOf : List Test → ℕ → Numeric
+firstOf [] v = rightOf v
+firstOf (test b n ∷ ts) v = pick b (firstOf ts v) (wrongNo n)
+
+first-of : (ts : List Test) (v : ℕ) → Numbered ts → firstOf ts v ≡ numericBy (firstNo ts) v
+unfolding pick
+first-of [] v h = refl
+first-of (test true n ∷ ts) v h = first-of ts v (h .1)
+first-of (test false n ∷ ts) v h = by (eqb n 0) (h .0)
+  where
+    by : (q : Bool) → T (not q) → _≡_ {A = Numeric} (wrongNo n) (record { number = n; value = pick q v 0 })
+    by true t = absurd t
+    by false t = refl
+
+-- a numeric field by what the digits are
+no-by : (tests : ℕ → List Test) (l : List ℕ) → pick (digitsOf l .ok) (firstNo (tests (digitsOf l .value))) 4 ≡ numericNo tests l
+unfolding digitsOf numericNo fieldNo pick
+no-by tests l = by (leb (length l) 18) (all isDigit l)
+  where
+    by : (q u : Bool) → pick (pick (q && u) (record { ok = true; value = valueOf l }) noDigits .ok) (firstNo (tests (pick (q && u) (record { ok = true; value = valueOf l }) noDigits .value))) 4 ≡ pick q (pick u (firstNo (tests (valueOf l))) 4) 4
+    by true true = refl
+    by true false = refl
+    by false u = refl
+
+of-by : (tests : ℕ → List Test) (l : List ℕ) → ((v : ℕ) → Numbered (tests v)) → pick (digitsOf l .ok) (firstOf (tests (digitsOf l .value)) (digitsOf l .value)) (wrongNo 4) ≡ numericOf tests l
+unfolding digitsOf numericOf numericNo fieldNo pick
+of-by tests l h = by (leb (length l) 18) (all isDigit l)
+  where
+    by : (q u : Bool) → pick (pick (q && u) (record { ok = true; value = valueOf l }) noDigits .ok) (firstOf (tests (pick (q && u) (record { ok = true; value = valueOf l }) noDigits .value)) (pick (q && u) (record { ok = true; value = valueOf l }) noDigits .value)) (wrongNo 4)
+        ≡ numericBy (pick q (pick u (firstNo (tests (valueOf l))) 4) 4) (valueOf l)
+    by true true = first-of (tests (valueOf l)) (valueOf l) (h (valueOf l))
+    by true false = refl
+    by false u = refl
+
+module _ {d : Digits} (tests : ℕ → List Test) (l : List ℕ) where
+  pub no-via : {x : ℕ} → d ≡ digitsOf l → x ≡ pick (d .ok) (firstNo (tests (d .value))) 4 → x ≡ numericNo tests l
+  no-via e h = h ∙ rw e (no-by tests l)
+
+  pub of-via : {x : Numeric} → ((v : ℕ) → Numbered (tests v)) → d ≡ digitsOf l → x ≡ pick (d .ok) (firstOf (tests (d .value)) (d .value)) (wrongNo 4) → x ≡ numericOf tests l
+  of-via n e h = h ∙ rw e (of-by tests l n)
+
+pub ruleset vias = (no-via, of-via, picks)
+
+-- digits in a range
+range-numbered : (low high v : ℕ) → Numbered (rangeTests low high v)
+range-numbered low high v = (tt, tt)
+
+by-range : (low high v : ℕ) (q u : Bool) → leb low v ≡ q → leb v high ≡ u → pick (ltb v low) (wrongNo 5) (pick (ltb high v) (wrongNo 5) (rightOf v)) ≡ pick (q && u) (rightOf v) (wrongNo 5)
+unfolding pick
+by-range low high v true true h k = rw (le-ltb v low (leb-true low v h), le-ltb high v (leb-true v high k))
+by-range low high v true false h k = rw (le-ltb v low (leb-true low v h), lt-ltb high v (leb-false v high k))
+by-range low high v false u h k = rw (lt-ltb v low (leb-false low v h))
+
+pub range-of : {d : Digits} {x : Numeric} (low high : ℕ) (l : List ℕ) → d ≡ digitsOf l → x ≡ rangedBy low high d → x ≡ numericOf (rangeTests low high) l
+unfolding rangedBy
+range-of {d} low high l e h = of-via (rangeTests low high) l (range-numbered low high) e (h ∙ ap (λ n. pick (d .ok) n (wrongNo 4)) (by-range low high (d .value) (leb low (d .value)) (leb (d .value) high) refl refl))
+
+-- where nothing is wrong there are digits
+pub is-digits : (tests : ℕ → List Test) (l : List ℕ) → numericNo tests l ≡ 0 → all isDigit l ≡ true
+unfolding numericNo fieldNo pick
+is-digits tests l z = by (leb (length l) 18) (all isDigit l) z
+  where
+    by : (q u : Bool) → pick q (pick u (firstNo (tests (valueOf l))) 4) 4 ≡ 0 → u ≡ true
+    by true true z = refl
+    by true false z = absurd (omega arith)
+    by false u z = absurd (omega arith)
+
+-- ## More tests than a call made: what it answered stands, or the others follow
+
+-- the tests bs, and more
+abbrev pub Extends : List Test → List Test → Type 0
+Extends [] ts = Unit {0}
+Extends (b ∷ bs) [] = ⊥
+Extends (b ∷ bs) (t ∷ ts) = (b ≡ t) × (Numbered (b ∷ []) × Extends bs ts)
+
+abbrev pub after : List Test → List Test → List Test
+after [] ts = ts
+after (b ∷ bs) [] = []
+after (b ∷ bs) (t ∷ ts) = after bs ts
+
+by-more : (bs ts : List Test) → Extends bs ts → firstNo ts ≡ pick (eqb (firstNo bs) 0) (firstNo (after bs ts)) (firstNo bs)
+unfolding pick
+by-more [] ts h = refl
+by-more (b ∷ bs) [] h = absurd h
+by-more (test true n ∷ bs) (t ∷ ts) h = rw (← h .0) (by-more bs ts (h .1 .1))
+by-more (test false n ∷ bs) (t ∷ ts) h = rw (← h .0) (by (eqb n 0) (h .1 .0 .0))
+  where
+    by : (q : Bool) → T (not q) → n ≡ pick q (firstNo (after bs ts)) n
+    by true t = absurd t
+    by false t = refl
+
+-- g of the value where nothing is wrong yet
+abbrev onward : {A : Type 0} → ℕ → ℕ → (ℕ → A) → A → A
+onward n v g a = pick (eqb n 0) (g (pick (eqb n 0) v 0)) a
+
+module _ (base tests : ℕ → List Test) (l : List ℕ) (h : (v : ℕ) → Extends (base v) (tests v)) where
+  abbrev others : ℕ → ℕ
+  others v = firstNo (after (base v) (tests v))
+
+  no-more : numericNo tests l ≡ onward (numericNo base l) (valueOf l) others (numericNo base l)
+  unfolding numericNo fieldNo pick
+  no-more = by (leb (length l) 18) (all isDigit l) (firstNo (base (valueOf l))) (by-more (base (valueOf l)) (tests (valueOf l)) (h (valueOf l)))
+    where
+      at : (q : Bool) (n v : ℕ) → pick q (others v) n ≡ pick q (others (pick q v 0)) n
+      at true n v = refl
+      at false n v = refl
+
+      by : (a b : Bool) (n : ℕ) → firstNo (tests (valueOf l)) ≡ pick (eqb n 0) (others (valueOf l)) n
+          → pick a (pick b (firstNo (tests (valueOf l))) 4) 4 ≡ onward (pick a (pick b n 4) 4) (valueOf l) others (pick a (pick b n 4) 4)
+      by true true n e = e ∙ at (eqb n 0) n (valueOf l)
+      by true false n e = refl
+      by false b n e = refl
+
+  of-more : numericOf tests l ≡ onward (numericNo base l) (valueOf l) (λ v. numericBy (others v) v) (numericOf base l)
+  unfolding numericOf pick
+  of-more = rw no-more (by (eqb (numericNo base l) 0))
+    where
+      by : (q : Bool) → numericBy (pick q (others (pick q (valueOf l) 0)) (numericNo base l)) (valueOf l) ≡ pick q (numericBy (others (pick q (valueOf l) 0)) (pick q (valueOf l) 0)) (numericBy (numericNo base l) (valueOf l))
+      by true = refl
+      by false = refl
+
+  module _ {f : Numeric} (e : f ≡ numericOf base l) where
+    number : f .number ≡ numericNo base l
+    unfolding numericOf
+    number = ap (λ (g : Numeric). g .number) e
+
+    value : f .value ≡ pick (eqb (numericNo base l) 0) (valueOf l) 0
+    unfolding numericOf
+    value = ap (λ (g : Numeric). g .value) e
+
+    pub no-stop : {x : ℕ} → (f .number ≡ 0 → ⊥) → x ≡ f .number → x ≡ numericNo tests l
+    unfolding pick
+    no-stop z k = k ∙ sym (rw (no-more, ← number, ne-eqb _ 0 z))
+
+    pub no-on : {x : ℕ} → f .number ≡ 0 → x ≡ firstNo (after (base (f .value)) (tests (f .value))) → x ≡ numericNo tests l
+    unfolding pick
+    no-on z k = k ∙ sym (rw (no-more, ← value, ← number, eq-eqb _ 0 z))
+
+    pub of-stop : {x : Numeric} → (f .number ≡ 0 → ⊥) → x ≡ f → x ≡ numericOf tests l
+    unfolding pick
+    of-stop z k = k ∙ sym (rw (of-more, ← e, ← number, ne-eqb _ 0 z))
+
+    pub of-on : {x : Numeric} → ((v : ℕ) → Numbered (after (base v) (tests v))) → f .number ≡ 0 → x ≡ firstOf (after (base (f .value)) (tests (f .value))) (f .value) → x ≡ numericOf tests l
+    unfolding pick
+    of-on n z k = k ∙ first-of (after (base (f .value)) (tests (f .value))) (f .value) (n (f .value)) ∙ sym (rw (of-more, ← value, ← number, eq-eqb _ 0 z))
+
+-- what a call answered, handed on
+pub is-right : (f : Numeric) → f .number ≡ 0 → f ≡ rightOf (f .value)
+is-right f z = ap (λ (n : ℕ). record { number = n; value = f .value }) z
+
+pub ruleset mores = (no-stop, no-on, of-stop, of-on, is-right, picks)

@@ -1,0 +1,7 @@
+use borrow.Author.Needs.{needs}
+use Rattle.field.proofs.Numerics.{range-of}
+use Rattle.field.proofs.accounts.account_number.Statement.{statement}
+use Rattle.field.proofs.accounts.account_number.Tie as tie
+
+pub account-number-spec : {M : Type 1} → statement M
+account-number-spec = tie.close (tie.spec (λ c κs. search needs) (λ c κs. search needs) (λ c. search range-of))

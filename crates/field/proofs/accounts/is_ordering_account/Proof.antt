@@ -1,0 +1,13 @@
+use borrow.Author.Needs.{needs}
+use Rattle.field.proofs.Elevens.{elevens}
+use Rattle.field.proofs.accounts.is_ordering_account.Statement.{statement}
+use Rattle.field.proofs.accounts.is_ordering_account.Tie as tie
+
+pub is-ordering-account-spec : {M : Type 1} → statement M
+is-ordering-account-spec =
+    tie.close
+    (tie.spec
+    (λ c κs. search needs)  -- weighed-requires
+    (λ c. search elevens depth 20 fits 10000)  -- returns
+    (λ c. search elevens depth 20 fits 10000)  -- returns-2
+    )

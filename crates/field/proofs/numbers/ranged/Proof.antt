@@ -1,0 +1,7 @@
+use borrow.Author.Needs.{needs}
+use Rattle.field.proofs.Numerics.{range-of}
+use Rattle.field.proofs.numbers.ranged.Statement.{statement}
+use Rattle.field.proofs.numbers.ranged.Tie as tie
+
+pub ranged-spec : {M : Type 1} → statement M
+ranged-spec = tie.close (tie.spec (λ c κs. search needs) (λ c κs. search needs) (λ c. search range-of))

@@ -1,0 +1,88 @@
+-- Numeric fields of at most 18 digits: what is wrong, and the value where nothing is.
+use Prim.Native.Nat.{ℕ, suc, _+_, _-_, _*_, _≤_}
+use mathlib.Core.Path.{_≡_}
+use mathlib.Core.List.{List, [], _∷_}
+use mathlib.Core.Bool.{Bool, true, false, _&&_}
+use lib.ListN.{length}
+use lib.Dec.{leb, ltb, eqb}
+use Rattle.machine.specs.Lists.{pick, all, isDigit, inRange}
+use Rattle.machine.specs.Digits.{valueOf}
+use Rattle.format.specs.Fields.{numeric}
+use Rattle.format.specs.Rules.{maxAccount, isDate, isDesiredDate, isOrderingAccount, isAccount}
+use Rattle.format.specs.Answers.{wrongForm, wrongValue, wrongAccount, differs, wrongTrailer}
+use Rattle.format.specs.Tests.{Test, test}
+use Rattle.field.specs.Rows.{fieldNo}
+use Rattle.field.specs.declared.numbers.Digits.{Digits}
+use Rattle.field.specs.declared.numbers.Numeric.{Numeric}
+
+abbrev pub noDigits : Digits
+noDigits = record { ok = false; value = 0 }
+
+unfoldable pub digitsOf : List ℕ → Digits
+digitsOf l = pick (leb (length l) 18 && all isDigit l) (record { ok = true; value = valueOf l }) noDigits
+
+abbrev pub wrongNo : ℕ → Numeric
+wrongNo n = record { number = n; value = 0 }
+
+abbrev pub rightOf : ℕ → Numeric
+rightOf v = record { number = 0; value = v }
+
+-- a number with its value where nothing is wrong
+abbrev pub numericBy : ℕ → ℕ → Numeric
+numericBy n v = record { number = n; value = pick (eqb n 0) v 0 }
+
+-- digits that stand for a number from low to high
+unfoldable pub rangedBy : ℕ → ℕ → Digits → Numeric
+rangedBy low high d =
+    pick (d .ok)
+    (pick (ltb (d .value) low) (wrongNo wrongValue)
+    (pick (ltb high (d .value)) (wrongNo wrongValue)
+    (rightOf (d .value))))
+    (wrongNo wrongForm)
+
+-- the field's form, then tests of its value
+unfoldable pub numericNo : (ℕ → List Test) → List ℕ → ℕ
+numericNo tests l = pick (leb (length l) 18) (fieldNo (numeric (length l)) (tests (valueOf l)) l) wrongForm
+
+unfoldable pub numericOf : (ℕ → List Test) → List ℕ → Numeric
+numericOf tests l = numericBy (numericNo tests l) (valueOf l)
+
+-- ## Accounts by their digits: what functions ask that are not public
+
+pub record TenDigits (l : List ℕ) (v : ℕ) : Type 0 where
+  pub short : length l ≤ 10
+  pub digits : all isDigit l ≡ true
+  pub value : v ≡ valueOf l
+
+-- each digit by its weight, from 1 for the last
+unfoldable pub weighedSum : List ℕ → ℕ
+weighedSum [] = 0
+weighedSum (c ∷ l) = suc (length l) * (c - 48) + weighedSum l
+
+-- ## The tests of each
+
+abbrev pub rangeTests : ℕ → ℕ → ℕ → List Test
+rangeTests low high v = test (inRange low high v) wrongValue ∷ []
+
+abbrev pub dateTests : ℕ → List Test
+dateTests v = test (isDate v) wrongValue ∷ []
+
+abbrev pub desiredTests : ℕ → List Test
+desiredTests v = test (isDesiredDate v) wrongValue ∷ []
+
+abbrev pub totalTests : ℕ → ℕ → ℕ → ℕ → List Test
+totalTests low high right v = test (inRange low high v) wrongValue ∷ test (eqb v right) wrongTrailer ∷ []
+
+abbrev pub equalTests : ℕ → ℕ → List Test
+equalTests right v = test (eqb v right) wrongTrailer ∷ []
+
+abbrev pub orderingTests : ℕ → List Test
+orderingTests v = test (inRange 1 maxAccount v) wrongValue ∷ test (isOrderingAccount v) wrongAccount ∷ []
+
+-- the own account, where it has to be
+unfoldable pub isOwnIf : Bool → ℕ → ℕ → Bool
+isOwnIf true own v = eqb v own
+isOwnIf false own v = true
+
+abbrev pub partyTests : Bool → ℕ → ℕ → List Test
+partyTests mine own v = test (inRange 1 maxAccount v) wrongValue ∷ test (isAccount v) wrongAccount ∷ test (isOwnIf mine own v) differs ∷ []

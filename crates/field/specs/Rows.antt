@@ -1,0 +1,44 @@
+-- What is wrong in a line: a row for each field from the left, with the number of what is wrong first in it (0: nothing). 'The field furthest left, and in one field the lowest number' (01, 'Order').
+use mathlib.Core.List.{List, [], _∷_}
+use Prim.Native.Nat.{ℕ, _+_, _-_}
+use lib.ListN.{take, drop}
+use lib.Dec.{eqb}
+use Rattle.machine.specs.Lists.{pick}
+use Rattle.format.specs.Fields.{Field, width, Values, wellFormed, readField}
+use Rattle.format.specs.Tests.{Test, test, Check, check, Tests}
+use Rattle.format.specs.Answers.{wrongForm}
+
+-- a column, and the number of what is wrong there
+pub data Row : Type 0 where
+  row : ℕ → ℕ → Row
+
+-- the field of a width at a column
+abbrev pub cut : ℕ → ℕ → List ℕ → List ℕ
+cut c w xs = take w (drop (c - 1) xs)
+
+-- the number of the first test that fails
+abbrev pub firstNo : List Test → ℕ
+firstNo [] = 0
+firstNo (test b n ∷ ts) = pick b (firstNo ts) n
+
+-- a field: its form, then its tests
+unfoldable pub fieldNo : Field → List Test → List ℕ → ℕ
+fieldNo f ts l = pick (wellFormed f l) (firstNo ts) wrongForm
+
+abbrev pub rowsAt : ℕ → (fs : List Field) → Tests fs → List ℕ → List Row → List Row
+rowsAt c [] t xs k = k
+rowsAt c (f ∷ fs) t xs k = row c (fieldNo f (t .0) (cut c (width f) xs)) ∷ rowsAt (c + width f) fs (t .1) xs k
+
+abbrev pub checkRows : List Check → List Row
+checkRows [] = []
+checkRows (check b n c ∷ cs) = row c (pick b 0 n) ∷ checkRows cs
+
+-- the fields of a line from a column on
+abbrev pub fieldsAt : ℕ → (fs : List Field) → List ℕ → Values fs
+fieldsAt c [] xs = tt
+fieldsAt c (f ∷ fs) xs = (readField f (cut c (width f) xs), fieldsAt (c + width f) fs xs)
+
+-- the first row with a number, or what comes where none has one
+unfoldable pub firstOr : {A : Type 0} → (ℕ → ℕ → A) → List Row → A → A
+firstOr f [] a = a
+firstOr f (row c n ∷ rs) a = pick (eqb n 0) (firstOr f rs a) (f c n)

@@ -1,0 +1,100 @@
+// Accounts.
+ghost use mathlib.Core.Path.{_≡_};
+ghost use mathlib.Core.Bool.{true};
+ghost use Prim.Native.Nat.{_≤_};
+ghost use lib.ListN.{length, take, drop};
+ghost use Rattle.machine.specs.Lists.{all, isDigit};
+ghost use Rattle.machine.specs.Digits.{valueOf};
+ghost use Rattle.format.specs.Rules.{maxAccount, isOrderingAccount, isAccount};
+ghost use Rattle.field.specs.Leaf.{TenDigits, weighedSum, numericOf, rangeTests, orderingTests, partyTests};
+use crate::bytes::part;
+use crate::numbers::Numeric;
+use crate::numbers::digits_at;
+use crate::numbers::in_range;
+use crate::numbers::wide;
+use crate::numbers::wrong;
+
+// The digits with weights down to 1 for the last.
+fn weighed(s: &[u8]) -> u64
+    requires short { ⌜ length (now s) ≤ 10 ⌝ }
+    requires digits { ⌜ all isDigit (now s) ≡ true ⌝ }
+    ensures { λ r. ⌜ r ≡ weighedSum (now (s .entry)) ⌝ }
+{
+    let mut sum: u64 = 0;
+    let mut w: u64 = s.len() as u64;
+    let mut i = 0;
+    while i < s.len() {
+        sum = sum + w * wide(s[i] - 48);
+        w -= 1;
+        i += 1;
+    }
+    sum
+}
+
+// Nine or ten digits that pass the eleven check; v is what they stand for.
+fn is_ordering_account(s: &[u8], v: u64) -> bool
+    requires { ⌜ TenDigits (now s) v ⌝ }
+    ensures { λ r. ⌜ r ≡ isOrderingAccount v ⌝ }
+{
+    if 100000000 <= v {
+        weighed(s) % 11 == 0
+    } else {
+        false
+    }
+}
+
+// Those, or at most seven digits.
+fn is_account(s: &[u8], v: u64) -> bool
+    requires { ⌜ TenDigits (now s) v ⌝ }
+    ensures { λ r. ⌜ r ≡ isAccount v ⌝ }
+{
+    if v <= 9999999 {
+        return true;
+    }
+    is_ordering_account(s, v)
+}
+
+// Ten digits that are not all zero.
+fn account_number(line: &[u8], at: usize) -> Numeric
+    ensures { λ r. ⌜ r ≡ numericOf (rangeTests 1 maxAccount) (take 10 (drop at (now (line .entry)))) ⌝ }
+{
+    in_range(digits_at(line, at, 10), 1, 9999999999)
+}
+
+// The ordering account of a batch.
+pub fn ordering(line: &[u8], at: usize) -> Numeric
+    ensures { λ r. ⌜ r ≡ numericOf orderingTests (take 10 (drop at (now (line .entry)))) ⌝ }
+{
+    let f = account_number(line, at);
+    if f.number != 0 {
+        return f;
+    }
+    if is_ordering_account(part(line, at, 10), f.value) {
+        f
+    } else {
+        wrong(format::WRONG_ACCOUNT)
+    }
+}
+
+// An account of a transaction, which is the ordering account where it has to be the own one.
+pub fn party(line: &[u8], at: usize, mine: bool, own: u64) -> Numeric
+    ensures { λ r. ⌜ r ≡ numericOf (partyTests mine own) (take 10 (drop at (now (line .entry)))) ⌝ }
+{
+    let f = account_number(line, at);
+    if f.number != 0 {
+        return f;
+    }
+    if is_account(part(line, at, 10), f.value) {
+        if mine {
+            if f.value == own {
+                f
+            } else {
+                wrong(format::DIFFERS)
+            }
+        } else {
+            f
+        }
+    } else {
+        wrong(format::WRONG_ACCOUNT)
+    }
+}

@@ -1,0 +1,138 @@
+// Numeric fields.
+ghost use mathlib.Core.Path.{_≡_};
+ghost use mathlib.Core.Bool.{true};
+ghost use Prim.Native.Nat.{_≤_};
+ghost use lib.ListN.{length, take, drop};
+ghost use Rattle.machine.specs.Lists.{all, isDigit};
+ghost use Rattle.machine.specs.Digits.{valueOf};
+ghost use Rattle.field.specs.Leaf.{digitsOf, wrongNo, rightOf, numericNo, numericOf, rangedBy, rangeTests, totalTests, equalTests};
+use crate::bytes::is_digits;
+use crate::bytes::part;
+
+// Digits and what they stand for, 0 where they are none.
+pub struct Digits {
+    pub ok: bool,
+    pub value: u64,
+}
+
+// What is wrong with a numeric field, and its value where nothing is.
+pub struct Numeric {
+    pub number: u8,
+    pub value: u64,
+}
+
+pub fn wide(x: u8) -> u64
+    ensures { λ r. ⌜ r ≡ x ⌝ }
+{
+    x as u64
+}
+
+fn value(s: &[u8]) -> u64
+    requires short { ⌜ length (now s) ≤ 18 ⌝ }
+    requires digits { ⌜ all isDigit (now s) ≡ true ⌝ }
+    ensures { λ r. ⌜ r ≡ valueOf (now (s .entry)) ⌝ }
+{
+    let mut v: u64 = 0;
+    let mut i = 0;
+    while i < s.len() {
+        v = v * 10 + wide(s[i] - 48);
+        i += 1;
+    }
+    v
+}
+
+// At most 18 digits.
+pub fn digits_in(s: &[u8]) -> Digits
+    ensures { λ r. ⌜ r ≡ digitsOf (now (s .entry)) ⌝ }
+{
+    if 18 < s.len() {
+        return Digits {
+            ok: false,
+            value: 0,
+        };
+    }
+    if is_digits(s) {
+        Digits {
+            ok: true,
+            value: value(s),
+        }
+    } else {
+        Digits {
+            ok: false,
+            value: 0,
+        }
+    }
+}
+
+pub fn digits_at(line: &[u8], at: usize, width: usize) -> Digits
+    ensures { λ r. ⌜ r ≡ digitsOf (take width (drop at (now (line .entry)))) ⌝ }
+{
+    digits_in(part(line, at, width))
+}
+
+pub fn wrong(number: u8) -> Numeric
+    ensures { λ r. ⌜ r ≡ wrongNo number ⌝ }
+{
+    Numeric { number, value: 0 }
+}
+
+pub fn right(value: u64) -> Numeric
+    ensures { λ r. ⌜ r ≡ rightOf value ⌝ }
+{
+    Numeric { number: 0, value }
+}
+
+// Digits that stand for a number from low to high.
+pub fn in_range(d: Digits, low: u64, high: u64) -> Numeric
+    ensures { λ r. ⌜ r ≡ rangedBy low high d ⌝ }
+{
+    if d.ok {
+        if d.value < low {
+            return wrong(format::WRONG_VALUE);
+        }
+        if high < d.value {
+            return wrong(format::WRONG_VALUE);
+        }
+        right(d.value)
+    } else {
+        wrong(format::WRONG_FORM)
+    }
+}
+
+// A field of digits that stand for a number from low to high.
+pub fn ranged(line: &[u8], at: usize, width: usize, low: u64, high: u64) -> Numeric
+    ensures { λ r. ⌜ r ≡ numericOf (rangeTests low high) (take width (drop at (now (line .entry)))) ⌝ }
+{
+    in_range(digits_at(line, at, width), low, high)
+}
+
+// A trailer's number: from low to high, and the right one.
+pub fn total_no(line: &[u8], at: usize, width: usize, low: u64, high: u64, right: u64) -> u8
+    ensures { λ r. ⌜ r ≡ numericNo (totalTests low high right) (take width (drop at (now (line .entry)))) ⌝ }
+{
+    let n = ranged(line, at, width, low, high);
+    if n.number != 0 {
+        return n.number;
+    }
+    if n.value == right {
+        0
+    } else {
+        format::WRONG_TRAILER
+    }
+}
+
+// The same for a number that may be zero.
+pub fn equal_no(line: &[u8], at: usize, width: usize, right: u64) -> u8
+    ensures { λ r. ⌜ r ≡ numericNo (equalTests right) (take width (drop at (now (line .entry)))) ⌝ }
+{
+    let d = digits_at(line, at, width);
+    if d.ok {
+        if d.value == right {
+            0
+        } else {
+            format::WRONG_TRAILER
+        }
+    } else {
+        format::WRONG_FORM
+    }
+}

@@ -1,0 +1,76 @@
+// Alphanumeric fields and fillers.
+ghost use mathlib.Core.Path.{_≡_};
+ghost use mathlib.Core.List.{[], _∷_};
+ghost use lib.ListN.{take, drop};
+ghost use Rattle.machine.specs.Lists.{same};
+ghost use Rattle.format.specs.Fields.{filled, optional, free, filler};
+ghost use Rattle.format.specs.Answers.{wrongValue};
+ghost use Rattle.format.specs.Tests.{test};
+ghost use Rattle.field.specs.Rows.{fieldNo};
+use crate::bytes::is_blank;
+use crate::bytes::is_left_justified;
+use crate::bytes::is_printable;
+use crate::bytes::is_same;
+use crate::bytes::part;
+
+pub fn filler_no(line: &[u8], at: usize, width: usize) -> u8
+    ensures { λ r. ⌜ r ≡ fieldNo (filler width) [] (take width (drop at (now (line .entry)))) ⌝ }
+{
+    if is_blank(part(line, at, width)) {
+        0
+    } else {
+        format::WRONG_FORM
+    }
+}
+
+// A text that has to be there.
+pub fn filled_no(line: &[u8], at: usize, width: usize) -> u8
+    ensures { λ r. ⌜ r ≡ fieldNo (filled width) [] (take width (drop at (now (line .entry)))) ⌝ }
+{
+    let s = part(line, at, width);
+    if is_printable(s) {
+        if is_left_justified(s) {
+            0
+        } else {
+            format::WRONG_FORM
+        }
+    } else {
+        format::WRONG_FORM
+    }
+}
+
+// A text that may be blank.
+pub fn optional_no(line: &[u8], at: usize, width: usize) -> u8
+    ensures { λ r. ⌜ r ≡ fieldNo (optional width) [] (take width (drop at (now (line .entry)))) ⌝ }
+{
+    if is_blank(part(line, at, width)) {
+        return 0;
+    }
+    filled_no(line, at, width)
+}
+
+// A text that may be anything.
+pub fn free_no(line: &[u8], at: usize, width: usize) -> u8
+    ensures { λ r. ⌜ r ≡ fieldNo (free width) [] (take width (drop at (now (line .entry)))) ⌝ }
+{
+    if is_printable(part(line, at, width)) {
+        0
+    } else {
+        format::WRONG_FORM
+    }
+}
+
+// A text that has to be this one.
+pub fn exactly_no(line: &[u8], at: usize, width: usize, text: &[u8]) -> u8
+    ensures { λ r. ⌜ r ≡ fieldNo (filled width) (test (same (take width (drop at (now (line .entry)))) (now (text .entry))) wrongValue ∷ []) (take width (drop at (now (line .entry)))) ⌝ }
+{
+    let f = filled_no(line, at, width);
+    if f != 0 {
+        return f;
+    }
+    if is_same(part(line, at, width), text) {
+        0
+    } else {
+        format::WRONG_VALUE
+    }
+}
