@@ -1,0 +1,536 @@
+-- The first fault of each kind of record, from what calls answered of its fields. Assumes nothing.
+use Prim.Native.Nat.{ℕ, zero, suc, _+_, _-_, _/_, _<_, _≤_, zero-le}
+use mathlib.Core.Path.{_≡_, refl, sym, ap, _∙_, subst}
+use mathlib.Core.List.{List, [], _∷_}
+use mathlib.Core.Bool.{Bool, true, false, not, _&&_, _||_}
+use mathlib.Core.Option.{Option, none, some}
+use native.Mathlib.Omega.{arith}
+use borrow.Author.Needs.{needs}
+use borrow.Author.Tests.{lt-ltb, le-ltb, le-leb, lt-leb, eq-eqb, ne-eqb, leb-true, leb-false, ltb-true, ltb-false, eqb-true, eqb-false}
+use lib.ListN.{length, take, drop, length-take}
+use lib.Seq.{take-take, drop-drop}
+use lib.Dec.{T, eqb, leb, ltb}
+use Rattle.machine.specs.Lists.{pick, all, same, isDigit, inRange}
+use Rattle.machine.specs.Digits.{valueOf}
+use Rattle.format.specs.Fields.{Field, numeric, filled, filler, width, wellFormed}
+use Rattle.format.specs.Answers.{wrongValue, wrongAccount, differs, aboveMaximum}
+use Rattle.format.specs.Records.{layout, Fields, group, sequence, unidentified, amount}
+use Rattle.format.specs.Rules.{maxAmount, maxTotal, maxItems, maxAccount, maxSequence, EUR, isGroup, isOrderingAccount, isIdentification, isOfDay, isNameCodeIn, isAccount, isOwnPayer, isOwnBeneficiary, sameGroup, typeOf}
+use Rattle.format.specs.Tests.{Test, test, Tests, isNext, groupTests, typeTests, transactionTests, batchHeaderTests, fileHeaderTests, orderingPartyTests, batchTrailerTests}
+use Rattle.format.specs.declared.Kind.{Kind}
+use Rattle.format.specs.declared.Kind.the-variants.{FileHeader, BatchHeaderB, BatchHeaderC, FixedDescription, OrderingParty, Transaction, NamePayer, CityPayer, PaymentReference, Description, NameBeneficiary, CityBeneficiary, BatchTrailer, FileTrailer}
+use Rattle.format.specs.declared.Group.{Group}
+use Rattle.format.specs.declared.Group.the-variants.{Payments, Debits}
+use Rattle.format.specs.declared.TypeRead.{TypeRead}
+use Rattle.format.specs.declared.TransactionType.{TransactionType}
+use Rattle.field.specs.declared.numbers.Digits.{Digits}
+use Rattle.field.specs.declared.numbers.Numeric.{Numeric}
+use Rattle.field.specs.Rows.{Row, row, cut, firstNo, fieldNo, rowsAt, checkRows, firstOr}
+use Rattle.field.specs.Leaf.{digitsOf, numericNo, numericOf, rangeTests, dateTests, isOwnIf, partyTests}
+use Rattle.field.proofs.Picks.{pick-yes, pick-no, first-holds, else-is}
+use Rattle.field.proofs.Forms.{form-stop, form-on}
+use Rattle.field.proofs.Numerics.{and-first, and-second, no-stop, no-on}
+use Rattle.field.proofs.Rows.{row-next, row-none, rows-passed, no-row, of-value, ranged-row, party-row}
+use Rattle.record.specs.declared.Fault.{Fault}
+use Rattle.record.specs.declared.Batch.{Batch}
+use Rattle.record.specs.declared.Transaction as declared
+use Rattle.record.specs.declared.TransactionRead.{TransactionRead}
+use Rattle.record.specs.Faults.{faultAt, noFault, firstFault, fieldsOf, fieldsFault, groupSaid, testsFor, maximaFor, faultOf, headerFault, textFault, maximaFault}
+use Rattle.record.specs.Read.{transactionFor, refusedTransaction, takenTransaction, transactionOf, typeOr}
+
+-- the last row of a chain
+pub last-row : {x : Fault} {r : ℕ} (c n : ℕ) → r ≡ n → x ≡ firstFault (row c r ∷ []) → x ≡ firstOr faultAt (row c n ∷ []) noFault
+unfolding firstFault
+last-row c n e p = p ∙ ap (λ m. firstOr faultAt (row c m ∷ []) noFault) e
+
+pub ruleset ends = (last-row, rows-passed)
+
+-- ## The identification
+
+inner : (l : List ℕ) → take 2 (drop 2 l) ≡ drop 2 (take 4 l)
+inner [] = refl
+inner (a ∷ []) = refl
+inner (a ∷ b ∷ l) = refl
+
+inside : (l : List ℕ) → take 2 (drop 26 l) ≡ drop 2 (take 4 (drop 24 l))
+inside l = ap (take 2) (sym (drop-drop 2 24 l)) ∙ inner (drop 24 l)
+
+digits-front : (n : ℕ) (l : List ℕ) → all isDigit l ≡ true → all isDigit (take n l) ≡ true
+digits-front zero l h = refl
+digits-front (suc n) [] h = refl
+digits-front (suc n) (c ∷ l) h = rw (and-first (isDigit c) (all isDigit l) h) (digits-front n l (and-second (isDigit c) (all isDigit l) h))
+
+-- digits that a call read
+digits-value : {d : Digits} (l : List ℕ) → leb (length l) 18 ≡ true → all isDigit l ≡ true → d ≡ digitsOf l → d .value ≡ valueOf l
+unfolding digitsOf pick
+digits-value l h k e = ap (λ (x : Digits). x .value) e ∙ rw (h, k)
+
+module _ {p : List ℕ} {d : Bool} (l : List ℕ) (i : p ≡ take 4 (drop 24 l)) (e : d ≡ all isDigit p) where
+  pub no-digits : d ≡ false → isIdentification (take 4 (drop 24 l)) ≡ false
+  unfolding isIdentification
+  no-digits h = let k : all isDigit (take 4 (drop 24 l)) ≡ false = ap (all isDigit) (sym i) ∙ sym e ∙ h in rw k
+
+  module _ (h : d ≡ true) where
+    are-digits : all isDigit (take 4 (drop 24 l)) ≡ true
+    are-digits = ap (all isDigit) (sym i) ∙ sym e ∙ h
+
+    counter : {q : List ℕ} {z v : Bool} → q ≡ take 2 (drop 26 l) → z ≡ same q (48 ∷ 48 ∷ []) → z ≡ v → isIdentification (take 4 (drop 24 l)) ≡ not v
+    unfolding isIdentification
+    counter j f k = rw are-digits (ap not (ap (λ t. same t (48 ∷ 48 ∷ [])) (sym (inside l) ∙ sym j) ∙ sym f ∙ k))
+
+    pub no-counter : {q : List ℕ} {z : Bool} → q ≡ take 2 (drop 26 l) → z ≡ same q (48 ∷ 48 ∷ []) → z ≡ true → isIdentification (take 4 (drop 24 l)) ≡ false
+    no-counter j f k = counter j f k
+
+    pub counted : {q : List ℕ} {z : Bool} → q ≡ take 2 (drop 26 l) → z ≡ same q (48 ∷ 48 ∷ []) → z ≡ false → isIdentification (take 4 (drop 24 l)) ≡ true
+    counted j f k = counter j f k
+
+    pub of-day : {t : Digits} {v : Bool} (created : ℕ) → t ≡ digitsOf (take 2 (drop 24 l)) → eqb (t .value) (created / 10000) ≡ v → isOfDay created (take 4 (drop 24 l)) ≡ v
+    unfolding isOfDay
+    of-day created j k =
+        let f : take 2 (take 4 (drop 24 l)) ≡ take 2 (drop 24 l) = take-take 2 4 (drop 24 l) (omega arith) in
+        let n : leb (length (take 2 (drop 24 l))) 18 ≡ true = le-leb (length (take 2 (drop 24 l))) 18 (rw length-take (omega arith)) in
+        let a : all isDigit (take 2 (drop 24 l)) ≡ true = ap (all isDigit) (sym f) ∙ digits-front 2 (take 4 (drop 24 l)) are-digits in
+        ap (λ m. eqb m (created / 10000)) (ap valueOf f ∙ sym (digits-value (take 2 (drop 24 l)) n a j)) ∙ k
+
+pub ruleset identifications = (form-stop, form-on, pick-yes, pick-no, no-digits, no-counter, counted, of-day, eq-eqb, ne-eqb)
+
+-- the row, with the creation date as it stands
+pub identification-row : {r : Numeric} {n : ℕ} (l t : List ℕ) → r ≡ numericOf dateTests l → r .number ≡ 0
+    → n ≡ fieldNo (filled 4) (test (isIdentification t) wrongValue ∷ test (isOfDay (r .value) t) differs ∷ []) t
+    → n ≡ fieldNo (filled 4) (test (isIdentification t) wrongValue ∷ test (isOfDay (valueOf l) t) differs ∷ []) t
+identification-row l t e z h = h ∙ ap (λ v. fieldNo (filled 4) (test (isIdentification t) wrongValue ∷ test (isOfDay v t) differs ∷ []) t) (of-value dateTests l e z)
+
+-- ## Numbers with a test more
+
+pub at-least : {f : Numeric} (low high : ℕ) (l : List ℕ) → f ≡ numericOf (rangeTests low high) l → f .number ≡ 0 → low ≤ f .value
+unfolding numericOf numericNo fieldNo pick
+at-least {f} low high l e z = rw (of-value (rangeTests low high) l e z) (by (leb (length l) 18) (all isDigit l) (leb low (valueOf l)) refl (leb (valueOf l) high) (sym (ap (λ (n : Numeric). n .number) e) ∙ z))
+  where
+    by : (a b c : Bool) → leb low (valueOf l) ≡ c → (d : Bool) → _≡_ {A = ℕ} (pick a (pick b (pick (c && d) 0 5) 4) 4) 0 → low ≤ valueOf l
+    by true true true h d k = leb-true low (valueOf l) h
+    by true true false h d k = absurd (omega arith)
+    by true false c h d k = absurd (omega arith)
+    by false b c h d k = absurd (omega arith)
+
+abbrev sequenceTests : ℕ → ℕ → List Test
+sequenceTests before v = test (inRange 1 maxSequence v) wrongValue ∷ test (isNext before v) differs ∷ []
+
+pub sequence-row : {r : ℕ} (before : ℕ) (m : List ℕ) → r ≡ numericNo (sequenceTests before) (take 4 m)
+    → r ≡ fieldNo (numeric 4) (test (inRange 1 maxSequence (valueOf (take 4 m))) wrongValue ∷ test (isNext before (valueOf (take 4 m))) differs ∷ []) (take 4 m)
+sequence-row before m e = no-row (sequenceTests before) 4 m e refl
+
+pub is-next : (before n : ℕ) → 1 ≤ n → n - 1 ≡ before → eqb n (suc before) ≡ true
+is-next before n h e = eq-eqb n (suc before) (omega arith)
+
+pub is-not-next : (before n : ℕ) → 1 ≤ n → (n - 1 ≡ before → ⊥) → eqb n (suc before) ≡ false
+is-not-next before n h e = ne-eqb n (suc before) (λ k. e (omega arith))
+
+pub ruleset sequences = (sequence-row, no-stop, no-on, pick-yes, pick-no, first-holds, else-is, is-next, is-not-next, at-least, eq-eqb, ne-eqb)
+
+abbrev nameCodeTests : Group → ℕ → List Test
+nameCodeTests g v = test (inRange 1 2 v) wrongValue ∷ test (isNameCodeIn g v) differs ∷ []
+
+pub name-code-row : {r : ℕ} (g : Group) (m : List ℕ) → r ≡ numericNo (nameCodeTests g) (take 1 m)
+    → r ≡ fieldNo (numeric 1) (test (inRange 1 2 (valueOf (take 1 m))) wrongValue ∷ test (isNameCodeIn g (valueOf (take 1 m))) differs ∷ []) (take 1 m)
+name-code-row g m e = no-row (nameCodeTests g) 1 m e refl
+
+pub name-payments : {g : Group} (n : ℕ) → g ≡ Payments → isNameCodeIn g n ≡ true
+unfolding isNameCodeIn
+name-payments n e = rw e
+
+pub name-debits : {g : Group} {v : Bool} (n : ℕ) → g ≡ Debits → eqb n 1 ≡ v → isNameCodeIn g n ≡ v
+unfolding isNameCodeIn
+name-debits n e h = rw e h
+
+pub ruleset name-codes = (name-code-row, no-stop, no-on, pick-yes, pick-no, name-payments, name-debits, eq-eqb, ne-eqb)
+
+-- ## A batch's maxima
+
+module _ {x : Fault} (b : Batch) (next : ℕ) where
+  pub too-many : maxItems ≤ b .items → x ≡ faultAt 1 aboveMaximum → x ≡ maximaFault b next
+  unfolding maximaFault firstFault firstOr pick
+  too-many h e = rw (le-ltb (b .items) maxItems h) e
+
+  module _ (k : b .items < maxItems) where
+    pub too-much : maxTotal < next → x ≡ faultAt 10 aboveMaximum → x ≡ maximaFault b next
+    unfolding maximaFault firstFault firstOr pick
+    too-much h e = let s : maxTotal < b .total + next = omega arith in rw (lt-ltb (b .items) maxItems k, lt-leb (b .total + next) maxTotal s) e
+
+    pub much-in-all : next ≤ maxTotal → maxTotal - next < b .total → x ≡ faultAt 10 aboveMaximum → x ≡ maximaFault b next
+    unfolding maximaFault firstFault firstOr pick
+    much-in-all l h e = let s : maxTotal < b .total + next = omega arith in rw (lt-ltb (b .items) maxItems k, lt-leb (b .total + next) maxTotal s) e
+
+    pub within-maxima : next ≤ maxTotal → b .total ≤ maxTotal - next → x ≡ noFault → x ≡ maximaFault b next
+    unfolding maximaFault firstFault firstOr pick
+    within-maxima l h e = let s : b .total + next ≤ maxTotal = omega arith in rw (lt-ltb (b .items) maxItems k, le-leb (b .total + next) maxTotal s) e
+
+pub ruleset maxima = (too-many, too-much, much-in-all, within-maxima, needs)
+
+
+-- ## A batch header
+
+-- the rows of both variants
+abbrev headerRows : Bool → Option Group → ℕ → List ℕ → List Row
+headerRows identified g before l =
+    row 6 (fieldNo (filled 2) (test (isGroup (take 2 (drop 5 l))) wrongValue ∷ groupTests g (take 2 (drop 5 l))) (take 2 (drop 5 l)))
+    ∷ row 8 (fieldNo (numeric 10) (test (inRange 1 maxAccount (valueOf (take 10 (drop 7 l)))) wrongValue ∷ test (isOrderingAccount (valueOf (take 10 (drop 7 l)))) wrongAccount ∷ []) (take 10 (drop 7 l)))
+    ∷ row 18 (fieldNo (numeric 4) (test (inRange 1 maxSequence (valueOf (take 4 (drop 17 l)))) wrongValue ∷ test (isNext before (valueOf (take 4 (drop 17 l)))) differs ∷ []) (take 4 (drop 17 l)))
+    ∷ row 22 (fieldNo (filled 3) (test (same (take 3 (drop 21 l)) EUR) wrongValue ∷ []) (take 3 (drop 21 l)))
+    ∷ row 25 (pick identified (fieldNo (filled 16) [] (take 16 (drop 24 l))) (fieldNo (filler 16) [] (take 16 (drop 24 l))))
+    ∷ row 41 (fieldNo (filler 10) [] (take 10 (drop 40 l)))
+    ∷ []
+
+header-rows : (identified : Bool) (g : Option Group) (before : ℕ) (l : List ℕ) → firstOr faultAt (headerRows identified g before l) noFault ≡ headerFault identified g before l
+unfolding fieldsFault firstFault pick
+header-rows true g before l = refl
+header-rows false g before l = refl
+
+pub header-via : {x : Fault} (identified : Bool) (g : Option Group) (before : ℕ) (l : List ℕ) → x ≡ firstOr faultAt (headerRows identified g before l) noFault → x ≡ headerFault identified g before l
+header-via identified g before l e = e ∙ header-rows identified g before l
+
+-- ## A transaction
+
+pub taken-made : {k : TransactionType} (t : TypeRead) (n p b : ℕ) → k ≡ typeOr t → _≡_ {A = TransactionRead} (record { number = 0; column = 0; read = record { kind = k; amount = n; payer = p; beneficiary = b } }) (takenTransaction t n p b)
+taken-made t n p b e = rw e
+
+pub type-row : {t : TypeRead} {n : ℕ} (g : Group) (l : List ℕ) → t ≡ typeOf l → n ≡ fieldNo (filled 4) (typeTests g t) l → n ≡ fieldNo (filled 4) (typeTests g (typeOf l)) l
+type-row g l e h = h ∙ ap (λ t. fieldNo (filled 4) (typeTests g t) l) e
+
+own-payer : (g : Group) (own v : ℕ) → isOwnIf (sameGroup Payments g) own v ≡ isOwnPayer g own v
+unfolding isOwnIf isOwnPayer
+own-payer Payments own v = refl
+own-payer Debits own v = refl
+
+own-beneficiary : (g : Group) (own v : ℕ) → isOwnIf (sameGroup Debits g) own v ≡ isOwnBeneficiary g own v
+unfolding isOwnIf isOwnBeneficiary
+own-beneficiary Payments own v = refl
+own-beneficiary Debits own v = refl
+
+abbrev partyRow : List ℕ → Bool → ℕ
+partyRow l b = fieldNo (numeric 10) (test (inRange 1 maxAccount (valueOf l)) wrongValue ∷ test (isAccount (valueOf l)) wrongAccount ∷ test b differs ∷ []) l
+
+module _ {r : Numeric} (g : Group) (own : ℕ) (m : List ℕ) where
+  pub payer-row : r ≡ numericOf (partyTests (sameGroup Payments g) own) (take 10 m)
+      → r .number ≡ fieldNo (numeric 10) (test (inRange 1 maxAccount (valueOf (take 10 m))) wrongValue ∷ test (isAccount (valueOf (take 10 m))) wrongAccount ∷ test (isOwnPayer g own (valueOf (take 10 m))) differs ∷ []) (take 10 m)
+  payer-row e = party-row 10 m (sameGroup Payments g) own e refl ∙ ap (partyRow (take 10 m)) (own-payer g own (valueOf (take 10 m)))
+
+  pub beneficiary-row : r ≡ numericOf (partyTests (sameGroup Debits g) own) (take 10 m)
+      → r .number ≡ fieldNo (numeric 10) (test (inRange 1 maxAccount (valueOf (take 10 m))) wrongValue ∷ test (isAccount (valueOf (take 10 m))) wrongAccount ∷ test (isOwnBeneficiary g own (valueOf (take 10 m))) differs ∷ []) (take 10 m)
+  beneficiary-row e = party-row 10 m (sameGroup Debits g) own e refl ∙ ap (partyRow (take 10 m)) (own-beneficiary g own (valueOf (take 10 m)))
+
+pub ruleset parts = (type-row, payer-row, beneficiary-row)
+
+pub party-via : {r : Numeric} {m : Bool} (n : Bool) (own : ℕ) (l : List ℕ) → m ≡ n → r ≡ numericOf (partyTests m own) l → r ≡ numericOf (partyTests n own) l
+party-via n own l e h = h ∙ ap (λ m. numericOf (partyTests m own) l) e
+
+-- where no row has a number
+pub all-taken : {x : TransactionRead} {t : TypeRead} {kind rest : ℕ} {amount payer beneficiary : Numeric} (g : Group) (own : ℕ) (l : List ℕ)
+    → x ≡ takenTransaction t (amount .value) (payer .value) (beneficiary .value)
+    → t ≡ typeOf (take 4 (drop 5 l)) → kind ≡ fieldNo (filled 4) (typeTests g t) (take 4 (drop 5 l)) → kind ≡ 0
+    → amount ≡ numericOf (rangeTests 1 maxAmount) (take 12 (drop 9 l)) → amount .number ≡ 0
+    → payer ≡ numericOf (partyTests (sameGroup Payments g) own) (take 10 (drop 21 l)) → payer .number ≡ 0
+    → beneficiary ≡ numericOf (partyTests (sameGroup Debits g) own) (take 10 (drop 31 l)) → beneficiary .number ≡ 0
+    → rest ≡ fieldNo (filler 9) [] (take 9 (drop 41 l)) → rest ≡ 0
+    → x ≡ transactionOf g own l
+unfolding transactionOf
+all-taken g own l h t k k0 a a0 p p0 b b0 f f0 =
+    let va = of-value (rangeTests 1 maxAmount) (take 12 (drop 9 l)) a a0 in
+    let vp = of-value (partyTests (sameGroup Payments g) own) (take 10 (drop 21 l)) p p0 in
+    let vb = of-value (partyTests (sameGroup Debits g) own) (take 10 (drop 31 l)) b b0 in
+    row-next _ _ _ _ _ (type-row g (take 4 (drop 5 l)) t k) k0
+    (row-next _ _ _ _ _ (ranged-row 12 (drop 9 l) 1 maxAmount a refl) a0
+    (row-next _ _ _ _ _ (payer-row g own (drop 21 l) p) p0
+    (row-next _ _ _ _ _ (beneficiary-row g own (drop 31 l) b) b0
+    (row-next _ _ _ _ _ f f0
+    (row-none _ _ (h ∙ rw (t, va, vp, vb)))))))
+
+-- ## Rows and what follows them
+
+true≢false : true ≡ false → ⊥
+true≢false e = subst T e tt
+
+split-rows : {A : Type 0} (f : ℕ → ℕ → A) (a : A) (c : ℕ) (fs : List Field) (t : Tests fs) (xs : List ℕ) (k : List Row) → firstOr f (rowsAt c fs t xs k) a ≡ firstOr f (rowsAt c fs t xs []) (firstOr f k a)
+unfolding firstOr
+split-rows f a c [] t xs k = refl
+split-rows f a c (g ∷ fs) t xs k = ap (λ r. pick (eqb (fieldNo g (t .0) (cut c (width g) xs)) 0) r (f c (fieldNo g (t .0) (cut c (width g) xs)))) (split-rows f a (c + width g) fs (t .1) xs k)
+
+module _ (good : TransactionRead) (z : good .number ≡ 0) where
+  -- the same rows as a fault
+  by-rows : (b : Fault) (R : List Row) → firstOr faultAt R b ≡ pick (eqb (firstOr refusedTransaction R good .number) 0) b (faultAt (firstOr refusedTransaction R good .column) (firstOr refusedTransaction R good .number))
+  unfolding firstOr pick
+  by-rows b [] = rw z
+  by-rows b (row c n ∷ R) = by (eqb n 0) refl (by-rows b R)
+    where
+      by : (q : Bool) → eqb n 0 ≡ q → firstOr faultAt R b ≡ pick (eqb (firstOr refusedTransaction R good .number) 0) b (faultAt (firstOr refusedTransaction R good .column) (firstOr refusedTransaction R good .number))
+          → pick q (firstOr faultAt R b) (faultAt c n) ≡ pick (eqb (pick q (firstOr refusedTransaction R good) (refusedTransaction c n) .number) 0) b (faultAt (pick q (firstOr refusedTransaction R good) (refusedTransaction c n) .column) (pick q (firstOr refusedTransaction R good) (refusedTransaction c n) .number))
+      by true e h = h
+      by false e h = rw e
+
+  -- where no row has a number, it is what was read
+  is-good : (R : List Row) → firstOr refusedTransaction R good .number ≡ 0 → firstOr refusedTransaction R good ≡ good
+  unfolding firstOr pick
+  is-good [] h = refl
+  is-good (row c n ∷ R) h = by (eqb n 0) refl (is-good R) h
+    where
+      by : (q : Bool) → eqb n 0 ≡ q → (firstOr refusedTransaction R good .number ≡ 0 → firstOr refusedTransaction R good ≡ good) → pick q (firstOr refusedTransaction R good) (refusedTransaction c n) .number ≡ 0 → pick q (firstOr refusedTransaction R good) (refusedTransaction c n) ≡ good
+      by true e f h = f h
+      by false e f h = absurd (true≢false (sym (eq-eqb n 0 h) ∙ e))
+
+abbrev good : List ℕ → TransactionRead
+good xs = record { number = 0; column = 0; read = transactionFor (fieldsOf Transaction xs) }
+
+judged : (said : Bool) (g : Group) (b : Batch) (xs : List ℕ) → faultOf said g b Transaction xs ≡ pick (eqb (transactionOf g (b .account) xs .number) 0) (maximaFault b (amount (fieldsOf Transaction xs))) (faultAt (transactionOf g (b .account) xs .column) (transactionOf g (b .account) xs .number))
+unfolding faultOf maximaFault firstFault transactionOf
+judged said g b xs =
+    let x = fieldsOf Transaction xs in
+    let t = transactionTests g (b .account) x in
+    let k = checkRows (maximaFor b Transaction x) in
+    split-rows faultAt noFault 6 (layout Transaction) t xs k ∙ by-rows (good xs) refl (firstOr faultAt k noFault) (rowsAt 6 (layout Transaction) t xs [])
+
+-- ### For users: the fields of a transaction that a call read, and the fault of its line
+
+module _ {r : TransactionRead} (g : Group) (b : Batch) (xs : List ℕ) (e : r ≡ transactionOf g (b .account) xs) where
+  read-is : r .number ≡ 0 → r ≡ good xs
+  unfolding transactionOf
+  read-is z = e ∙ is-good (good xs) refl (rowsAt 6 (layout Transaction) (transactionTests g (b .account) (fieldsOf Transaction xs)) xs []) (ap (λ (t : TransactionRead). t .number) (sym e) ∙ z)
+
+  pub transaction-read : r .number ≡ 0 → r .read ≡ transactionFor (fieldsOf Transaction xs)
+  transaction-read z = ap (λ (t : TransactionRead). t .read) (read-is z)
+
+  module _ (said : Bool) where
+    judged-by : faultOf said g b Transaction xs ≡ pick (eqb (r .number) 0) (maximaFault b (amount (fieldsOf Transaction xs))) (faultAt (r .column) (r .number))
+    judged-by = rw e (judged said g b xs)
+
+    pub transaction-refused : (r .number ≡ 0 → ⊥) → faultOf said g b Transaction xs ≡ faultAt (r .column) (r .number)
+    unfolding pick
+    transaction-refused z = judged-by ∙ rw (ne-eqb (r .number) 0 z)
+
+    pub transaction-taken : r .number ≡ 0 → faultOf said g b Transaction xs ≡ maximaFault b (r .read .amount)
+    unfolding pick
+    transaction-taken z = judged-by ∙ rw (eq-eqb (r .number) 0 z) (ap (λ (t : declared.Transaction). maximaFault b (t .amount)) (sym (transaction-read z)))
+
+  pub refused-via : {x : Fault} → (r .number ≡ 0 → ⊥) → x ≡ faultAt (r .column) (r .number) → x ≡ faultOf false g b Transaction xs
+  refused-via z h = h ∙ sym (transaction-refused false z)
+
+  pub taken-via : {x : Fault} → r .number ≡ 0 → x ≡ maximaFault b (r .read .amount) → x ≡ faultOf false g b Transaction xs
+  taken-via z h = h ∙ sym (transaction-taken false z)
+
+pub ruleset judgements = (refused-via, taken-via)
+
+-- ### For users: the bounds of a transaction
+
+abbrev Zeros : List Row → Type 0
+Zeros [] = Unit {0}
+Zeros (row c n ∷ R) = (n ≡ 0) × Zeros R
+
+rows-all : {A : Type 0} (P : A → Type 0) (f : ℕ → ℕ → A) (a : A) (R : List Row) → ((c n : ℕ) → P (f c n)) → (Zeros R → P a) → P (firstOr f R a)
+unfolding firstOr pick
+rows-all P f a [] g h = h tt
+rows-all P f a (row c n ∷ R) g h = by (eqb n 0) refl (λ e. rows-all P f a R g (λ z. h (e, z)))
+  where
+    by : (q : Bool) → eqb n 0 ≡ q → (n ≡ 0 → P (firstOr f R a)) → P (pick q (firstOr f R a) (f c n))
+    by true e k = k (eqb-true n 0 e)
+    by false e k = g c n
+
+in-range : (w low high v : ℕ) (ts : List Test) (l : List ℕ) → fieldNo (numeric w) (test (inRange low high v) 5 ∷ ts) l ≡ 0 → v ≤ high
+unfolding fieldNo pick
+in-range w low high v ts l e = by (wellFormed (numeric w) l) (leb low v) (leb v high) refl e
+  where
+    by : (p q u : Bool) → leb v high ≡ u → pick p (pick (q && u) (firstNo ts) 5) 4 ≡ 0 → v ≤ high
+    by true true true h e = leb-true v high h
+    by true true false h e = absurd (omega arith)
+    by true false u h e = absurd (omega arith)
+    by false q u h e = absurd (omega arith)
+
+pub record Bounded (t : declared.Transaction) : Type 0 where
+  pub amount : t .amount ≤ maxAmount
+  pub payer : t .payer ≤ maxAccount
+  pub beneficiary : t .beneficiary ≤ maxAccount
+
+pub transaction-bounded : {r : TransactionRead} (g : Group) (own : ℕ) (xs : List ℕ) → r ≡ transactionOf g own xs → Bounded (r .read)
+unfolding transactionOf
+transaction-bounded g own xs e =
+    rw e
+    (rows-all (λ (r : TransactionRead). Bounded (r .read)) refusedTransaction _ _
+    (λ c n. record { amount = zero-le; payer = zero-le; beneficiary = zero-le })
+    (λ z. record { amount = in-range 12 1 maxAmount _ _ _ (z .1 .0); payer = in-range 10 1 maxAccount _ _ _ (z .1 .1 .0); beneficiary = in-range 10 1 maxAccount _ _ _ (z .1 .1 .1 .0) }))
+
+-- ### For users: what a batch's maxima keep
+
+pub maxima-kept : (b : Batch) (n : ℕ) → maximaFault b n .number ≡ 0 → (b .items < 100000) × (b .total + n ≤ 4537802160901)
+unfolding maximaFault firstFault firstOr pick
+maxima-kept b n z = by (ltb (b .items) maxItems) refl (leb (b .total + n) maxTotal) refl z
+  where
+    by : (p : Bool) → ltb (b .items) maxItems ≡ p → (q : Bool) → leb (b .total + n) maxTotal ≡ q → _≡_ {A = ℕ} (pick (eqb (pick p 0 8) 0) (pick (eqb (pick q 0 8) 0) noFault (faultAt 10 (pick q 0 8))) (faultAt 1 (pick p 0 8)) .number) 0 → (b .items < 100000) × (b .total + n ≤ 4537802160901)
+    by true h true k z = (ltb-true (b .items) maxItems h, leb-true (b .total + n) maxTotal k)
+    by true h false k z = absurd (omega arith)
+    by false h q k z = absurd (omega arith)
+
+-- ### For users: a header's sequence
+
+no-faults : (R : List Row) → firstOr faultAt R noFault .number ≡ 0 → Zeros R
+unfolding firstOr pick
+no-faults [] h = tt
+no-faults (row c n ∷ R) h = by (eqb n 0) refl (no-faults R) h
+  where
+    by : (q : Bool) → eqb n 0 ≡ q → (firstOr faultAt R noFault .number ≡ 0 → Zeros R) → pick q (firstOr faultAt R noFault) (faultAt c n) .number ≡ 0 → (n ≡ 0) × Zeros R
+    by true e f h = (eqb-true n 0 e, f h)
+    by false e f h = absurd (true≢false (sym (eq-eqb n 0 h) ∙ e))
+
+module _ (said : Bool) (g : Group) (b : Batch) (xs : List ℕ) where
+  pub header-bounded : faultOf said g b BatchHeaderB xs .number ≡ 0 → sequence (fieldsOf BatchHeaderB xs) ≤ 9999
+  unfolding faultOf firstFault
+  header-bounded z = in-range 4 1 maxSequence _ _ _ (no-faults _ z .1 .1 .0)
+
+  pub identified-bounded : faultOf said g b BatchHeaderC xs .number ≡ 0 → sequence (unidentified (fieldsOf BatchHeaderC xs)) ≤ 9999
+  unfolding faultOf firstFault
+  identified-bounded z = in-range 4 1 maxSequence _ _ _ (no-faults _ z .1 .1 .0)
+
+-- ### For users: a record's faults have numbers up to 9
+
+abbrev smallTests : List Test → Bool
+smallTests [] = true
+smallTests (test b n ∷ ts) = leb n 9 && smallTests ts
+
+abbrev smallAll : (fs : List Field) → Tests fs → Bool
+smallAll [] t = true
+smallAll (f ∷ fs) t = smallTests (t .0) && smallAll fs (t .1)
+
+abbrev Small : List Row → Type 0
+Small [] = Unit {0}
+Small (row c n ∷ R) = (n ≤ 9) × Small R
+
+first-small : (R : List Row) → Small R → firstOr faultAt R noFault .number ≤ 9
+unfolding firstOr pick
+first-small [] h = zero-le
+first-small (row c n ∷ R) h = by (eqb n 0) (first-small R (h .1))
+  where
+    by : (q : Bool) → firstOr faultAt R noFault .number ≤ 9 → pick q (firstOr faultAt R noFault) (faultAt c n) .number ≤ 9
+    by true k = k
+    by false k = h .0
+
+tests-small : (ts : List Test) → smallTests ts ≡ true → firstNo ts ≤ 9
+unfolding pick
+tests-small [] h = zero-le
+tests-small (test true n ∷ ts) h = tests-small ts (and-second (leb n 9) (smallTests ts) h)
+tests-small (test false n ∷ ts) h = leb-true n 9 (and-first (leb n 9) (smallTests ts) h)
+
+field-small : (f : Field) (ts : List Test) (l : List ℕ) → smallTests ts ≡ true → fieldNo f ts l ≤ 9
+unfolding fieldNo pick
+field-small f ts l h = by (wellFormed f l)
+  where
+    by : (q : Bool) → pick q (firstNo ts) 4 ≤ 9
+    by true = tests-small ts h
+    by false = omega arith
+
+rows-small : (c : ℕ) (fs : List Field) (t : Tests fs) (xs : List ℕ) (k : List Row) → smallAll fs t ≡ true → Small k → Small (rowsAt c fs t xs k)
+rows-small c [] t xs k h s = s
+rows-small c (f ∷ fs) t xs k h s =
+    (field-small f (t .0) (cut c (width f) xs) (and-first (smallTests (t .0)) (smallAll fs (t .1)) h), rows-small (c + width f) fs (t .1) xs k (and-second (smallTests (t .0)) (smallAll fs (t .1)) h) s)
+
+group-small : (said : Bool) (g : Group) (t : List ℕ) → smallTests (groupTests (groupSaid said g) t) ≡ true
+group-small true g t = refl
+group-small false g t = refl
+
+small-tests : (said : Bool) (g : Group) (b : Batch) (k : Kind) (x : Fields k) → smallAll (layout k) (testsFor said g b k x) ≡ true
+small-tests said g b FileHeader x = refl
+small-tests said g b BatchHeaderB x = rw (group-small said g (group x))
+small-tests said g b BatchHeaderC x = rw (group-small said g (group (unidentified x)))
+small-tests said g b FixedDescription x = refl
+small-tests said g b OrderingParty x = refl
+small-tests said g b Transaction x = refl
+small-tests said g b NamePayer x = refl
+small-tests said g b CityPayer x = refl
+small-tests said g b PaymentReference x = refl
+small-tests said g b Description x = refl
+small-tests said g b NameBeneficiary x = refl
+small-tests said g b CityBeneficiary x = refl
+small-tests said g b BatchTrailer x = refl
+small-tests said g b FileTrailer x = refl
+
+small-check : (q : Bool) → pick q 0 8 ≤ 9
+unfolding pick
+small-check true = omega arith
+small-check false = omega arith
+
+small-maxima : (b : Batch) (k : Kind) (x : Fields k) → Small (checkRows (maximaFor b k x))
+small-maxima b FileHeader x = tt
+small-maxima b BatchHeaderB x = tt
+small-maxima b BatchHeaderC x = tt
+small-maxima b FixedDescription x = tt
+small-maxima b OrderingParty x = tt
+small-maxima b Transaction x = (small-check (ltb (b .items) maxItems), (small-check (leb (b .total + amount x) maxTotal), tt))
+small-maxima b NamePayer x = tt
+small-maxima b CityPayer x = tt
+small-maxima b PaymentReference x = tt
+small-maxima b Description x = tt
+small-maxima b NameBeneficiary x = tt
+small-maxima b CityBeneficiary x = tt
+small-maxima b BatchTrailer x = tt
+small-maxima b FileTrailer x = tt
+
+pub fault-numbers : (said : Bool) (g : Group) (b : Batch) (k : Kind) (xs : List ℕ) → faultOf said g b k xs .number ≤ 9
+unfolding faultOf firstFault
+fault-numbers said g b k xs = first-small _ (rows-small 6 (layout k) (testsFor said g b k (fieldsOf k xs)) xs (checkRows (maximaFor b k (fieldsOf k xs))) (small-tests said g b k (fieldsOf k xs)) (small-maxima b k (fieldsOf k xs)))
+
+-- ## Every kind, from the call of its arm
+
+module _ {k : Kind} {x : Fault} (said : Bool) (g : Group) (b : Batch) (xs : List ℕ) where
+  at : (j : Kind) → k ≡ j → x ≡ faultOf said g b j xs → x ≡ faultOf said g b k xs
+  at j e h = h ∙ ap (λ i. faultOf said g b i xs) (sym e)
+
+  pub at-file-header : k ≡ FileHeader → x ≡ fieldsFault FileHeader (fileHeaderTests (fieldsOf FileHeader xs)) xs → x ≡ faultOf said g b k xs
+  unfolding faultOf fieldsFault
+  at-file-header e h = at FileHeader e h
+
+  pub at-header-b : {i : Bool} → k ≡ BatchHeaderB → i ≡ false → x ≡ headerFault i (groupSaid said g) (b .sequence) xs → x ≡ faultOf said g b k xs
+  unfolding faultOf fieldsFault
+  at-header-b e f h = at BatchHeaderB e (rw f at h)
+
+  pub at-header-c : {i : Bool} → k ≡ BatchHeaderC → i ≡ true → x ≡ headerFault i (groupSaid said g) (b .sequence) xs → x ≡ faultOf said g b k xs
+  unfolding faultOf fieldsFault
+  at-header-c e f h = at BatchHeaderC e (rw f at h)
+
+  pub at-fixed : k ≡ FixedDescription → x ≡ textFault 32 37 13 38 xs → x ≡ faultOf said g b k xs
+  unfolding faultOf textFault
+  at-fixed e h = at FixedDescription e h
+
+  pub at-ordering : k ≡ OrderingParty → x ≡ fieldsFault OrderingParty (orderingPartyTests g (fieldsOf OrderingParty xs)) xs → x ≡ faultOf said g b k xs
+  unfolding faultOf fieldsFault
+  at-ordering e h = at OrderingParty e h
+
+  pub at-transaction : k ≡ Transaction → x ≡ faultOf false g b Transaction xs → x ≡ faultOf said g b k xs
+  unfolding faultOf
+  at-transaction e h = at Transaction e h
+
+  pub at-name-payer : k ≡ NamePayer → x ≡ textFault 35 40 10 41 xs → x ≡ faultOf said g b k xs
+  unfolding faultOf textFault
+  at-name-payer e h = at NamePayer e h
+
+  pub at-city-payer : k ≡ CityPayer → x ≡ fieldsFault CityPayer ([], tt) xs → x ≡ faultOf said g b k xs
+  unfolding faultOf fieldsFault
+  at-city-payer e h = at CityPayer e h
+
+  pub at-reference : k ≡ PaymentReference → x ≡ textFault 16 21 29 22 xs → x ≡ faultOf said g b k xs
+  unfolding faultOf textFault
+  at-reference e h = at PaymentReference e h
+
+  pub at-description : k ≡ Description → x ≡ textFault 32 37 13 38 xs → x ≡ faultOf said g b k xs
+  unfolding faultOf textFault
+  at-description e h = at Description e h
+
+  pub at-name-beneficiary : k ≡ NameBeneficiary → x ≡ textFault 35 40 10 41 xs → x ≡ faultOf said g b k xs
+  unfolding faultOf textFault
+  at-name-beneficiary e h = at NameBeneficiary e h
+
+  pub at-city-beneficiary : k ≡ CityBeneficiary → x ≡ fieldsFault CityPayer ([], tt) xs → x ≡ faultOf said g b k xs
+  unfolding faultOf fieldsFault
+  at-city-beneficiary e h = at CityBeneficiary e h
+
+  pub at-batch-trailer : k ≡ BatchTrailer → x ≡ fieldsFault BatchTrailer (batchTrailerTests (b .total) (b .accounts) (b .items) (fieldsOf BatchTrailer xs)) xs → x ≡ faultOf said g b k xs
+  unfolding faultOf fieldsFault
+  at-batch-trailer e h = at BatchTrailer e h
+
+  pub at-file-trailer : k ≡ FileTrailer → x ≡ fieldsFault FileTrailer ([], tt) xs → x ≡ faultOf said g b k xs
+  unfolding faultOf fieldsFault
+  at-file-trailer e h = at FileTrailer e h

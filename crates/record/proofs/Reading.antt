@@ -1,0 +1,199 @@
+-- The record of an accepted line, and its text. Assumes nothing.
+use Prim.Native.Nat.{ℕ, zero, suc, _+_, _-_, _≤_, _<_}
+use mathlib.Core.Path.{_≡_, refl, sym, ap, _∙_, subst}
+use mathlib.Core.List.{List, [], _∷_}
+use mathlib.Core.Bool.{Bool, true, false, _&&_}
+use native.Mathlib.Omega.{arith}
+use native.Mathlib.Numerals.{add-one}
+use borrow.Author.Needs.{needs}
+use borrow.Author.Tests.{eq-eqb, eqb-true, leb-true, le-leb, lt-leb}
+use lib.ListN.{length, getD, set, take, drop, length-take}
+use lib.Seq.{paste, paste-zero, paste-suc}
+use lib.Dec.{T, leb, eqb}
+use Rattle.machine.specs.Lists.{pick, all, same, isDigit}
+use Rattle.machine.specs.Digits.{pow10, valueOf}
+use Rattle.format.specs.Fields.{Field, numeric, filled, optional, free, filler, width, wellFormed, readField}
+use Rattle.format.specs.Records.{layout}
+use Rattle.format.specs.Rules.{groupOf, typeOf}
+use Rattle.format.specs.Tests.{Test, Tests}
+use Rattle.format.specs.declared.Group.{Group}
+use Rattle.format.specs.declared.Kind.{Kind}
+use Rattle.format.specs.declared.Kind.the-variants.{FileHeader, BatchHeaderB, BatchHeaderC, FixedDescription, OrderingParty, Transaction, NamePayer, CityPayer, PaymentReference, Description, NameBeneficiary, CityBeneficiary, BatchTrailer, FileTrailer}
+use Rattle.format.specs.declared.TransactionType.{TransactionType}
+use Rattle.format.specs.declared.TypeRead.{TypeRead}
+use Rattle.format.proofs.Checks.{read-field}
+use Rattle.field.specs.declared.numbers.Digits.{Digits}
+use Rattle.field.specs.Rows.{Row, cut, firstNo, fieldNo, rowsAt, checkRows, fieldsAt, firstOr}
+use Rattle.field.specs.Leaf.{noDigits, digitsOf}
+use Rattle.field.proofs.Numerics.{and-first, and-second, digits-are}
+use Rattle.record.specs.Faults.{faultAt, noFault, firstFault, fieldsOf, testsFor, maximaFor, faultOf}
+use Rattle.record.specs.Read.{typeOr, recordFor, noText, padded, textFor, valueIn, valuesAt, valuesOf, headerFor}
+use Rattle.record.specs.declared.Fault.{Fault}
+use Rattle.record.specs.declared.Batch.{Batch}
+use Rattle.record.specs.declared.Transaction as declared
+use Rattle.record.specs.declared.Record.{Record}
+use Rattle.record.specs.declared.Record.the-variants.{BatchHeader}
+
+-- ## Records from what calls answered
+
+pub value-of : {d : Digits} (l : List ℕ) → d ≡ digitsOf l → d .value ≡ digitsOf l .value
+value-of l e = ap (λ (x : Digits). x .value) e
+
+pub kind-of : {t : TypeRead} {k : TransactionType} (l : List ℕ) → t ≡ typeOf l → k ≡ typeOr t → k ≡ typeOr (typeOf l)
+kind-of l e h = h ∙ ap typeOr e
+
+pub transaction-made : {k l : TransactionType} {a p b a′ p′ b′ : ℕ} → k ≡ l → a ≡ a′ → p ≡ p′ → b ≡ b′
+    → _≡_ {A = declared.Transaction} (record { kind = k; amount = a; payer = p; beneficiary = b }) (record { kind = l; amount = a′; payer = p′; beneficiary = b′ })
+transaction-made e f g h = rw (e, f, g, h)
+
+pub ruleset transactions = (kind-of, transaction-made)
+
+pub header-made : {g : Group} {a s : ℕ} (identified : Bool) (line : List ℕ) → g ≡ groupOf (take 2 (drop 5 line)) → a ≡ digitsOf (take 10 (drop 7 line)) .value → s ≡ digitsOf (take 4 (drop 17 line)) .value → BatchHeader g a s identified ≡ headerFor identified line
+header-made true line e f h = rw (e, f, h)
+header-made false line e f h = rw (e, f, h)
+
+pub same-of : {p : List ℕ} {b : Bool} (l t : List ℕ) → p ≡ l → b ≡ same p t → b ≡ same l t
+same-of l t d e = rw (← d) e
+
+pub record-via : {k m : Kind} {x : Record} (line : List ℕ) → k ≡ m → x ≡ recordFor m (valuesOf m line) → x ≡ recordFor k (valuesOf k line)
+record-via line e h = rw e h
+
+-- ## Texts
+
+pub text-via : {k m : Kind} {x : List ℕ} (line : List ℕ) → k ≡ m → x ≡ textFor m (valuesOf m line) → x ≡ textFor k (valuesOf k line)
+text-via line e h = rw e h
+
+pub record Pasted (s t : List ℕ) (i : ℕ) : Type 0 where
+  pub within : i ≤ length s
+  pub is : t ≡ paste noText 0 s i
+
+pub pasted-none : (s : List ℕ) → Pasted s noText 0
+pasted-none s = record { within = omega arith; is = paste-zero noText 0 s }
+
+pub too-long : (s : List ℕ) → 35 < length s → noText ≡ padded s
+unfolding padded pick
+too-long s h = rw (lt-leb (length s) 35 h)
+
+module _ {s t : List ℕ} {i : ℕ} (p : Pasted s t i) (h : length s ≤ 35) where
+  pub pasted-more : i < length s → Pasted s (set t i (getD s i 0)) (i + 1)
+  pasted-more k =
+      let a : 0 + i < 35 = omega arith in
+      let z : 0 + i ≡ i = omega arith in
+      record { within = omega arith; is = rw (add-one, p .is) (ap (λ n. set (paste noText 0 s i) n (getD s i 0)) (sym z) ∙ paste-suc noText 0 s i 0 a k) }
+
+  pub pasted-all : length s ≤ i → t ≡ padded s
+  unfolding padded pick
+  pasted-all k = let e : i ≡ length s = omega (arith, p) in rw (le-leb (length s) 35 h, p .is, e)
+
+  pub index-fits : i < length s → i < 35
+  index-fits k = omega arith
+
+pub ruleset copies = (pasted-none, too-long, pasted-more, pasted-all, index-fits, needs)
+
+-- ## For users: the values of an accepted line are its fields
+
+-- numeric fields of at most 18 digits
+abbrev pub narrow : List Field → Bool
+narrow [] = true
+narrow (numeric w ∷ fs) = leb w 18 && narrow fs
+narrow (filled w ∷ fs) = narrow fs
+narrow (optional w ∷ fs) = narrow fs
+narrow (free w ∷ fs) = narrow fs
+narrow (filler w ∷ fs) = narrow fs
+
+narrow-first : (f : Field) (fs : List Field) → narrow (f ∷ fs) ≡ true → narrow (f ∷ []) ≡ true
+narrow-first (numeric w) fs h = rw (and-first (leb w 18) (narrow fs) h)
+narrow-first (filled w) fs h = refl
+narrow-first (optional w) fs h = refl
+narrow-first (free w) fs h = refl
+narrow-first (filler w) fs h = refl
+
+narrow-rest : (f : Field) (fs : List Field) → narrow (f ∷ fs) ≡ true → narrow fs ≡ true
+narrow-rest (numeric w) fs h = and-second (leb w 18) (narrow fs) h
+narrow-rest (filled w) fs h = h
+narrow-rest (optional w) fs h = h
+narrow-rest (free w) fs h = h
+narrow-rest (filler w) fs h = h
+
+true≢false : true ≡ false → ⊥
+true≢false e = subst T e tt
+
+is-formed : (f : Field) (ts : List Test) (l : List ℕ) → fieldNo f ts l ≡ 0 → wellFormed f l ≡ true
+unfolding fieldNo pick
+is-formed f ts l z = by (wellFormed f l) z
+  where
+    by : (q : Bool) → pick q (firstNo ts) 4 ≡ 0 → q ≡ true
+    by true e = refl
+    by false e = absurd (omega arith)
+
+formed-field : (f : Field) (ts : List Test) (m : List ℕ) → narrow (f ∷ []) ≡ true → fieldNo f ts (take (width f) m) ≡ 0 → valueIn f (take (width f) m) ≡ readField f (take (width f) m)
+formed-field (numeric w) ts m h z =
+    let b : length (take w m) ≤ 18 = rw length-take (omega (arith, leb-true w 18 (and-first (leb w 18) true h))) in
+    sym (ap (λ (d : Digits). d .value) (digits-are (take w m) b (is-formed (numeric w) ts (take w m) z) refl))
+formed-field (filled w) ts m h z = refl
+formed-field (optional w) ts m h z = refl
+formed-field (free w) ts m h z = refl
+formed-field (filler w) ts m h z = refl
+
+pub formed : (c : ℕ) (fs : List Field) (t : Tests fs) (xs : List ℕ) (k : List Row) → narrow fs ≡ true → firstOr faultAt (rowsAt c fs t xs k) noFault .number ≡ 0 → valuesAt c fs xs ≡ fieldsAt c fs xs
+unfolding firstOr pick
+formed c [] t xs k h z = refl
+formed c (f ∷ fs) t xs k h z = by (eqb n 0) refl (formed (c + width f) fs (t .1) xs k (narrow-rest f fs h)) z
+  where
+    n : ℕ
+    n = fieldNo f (t .0) (cut c (width f) xs)
+
+    rest : Fault
+    rest = firstOr faultAt (rowsAt (c + width f) fs (t .1) xs k) noFault
+
+    by : (q : Bool) → eqb n 0 ≡ q → (rest .number ≡ 0 → valuesAt (c + width f) fs xs ≡ fieldsAt (c + width f) fs xs) → pick q rest (faultAt c n) .number ≡ 0 → valuesAt c (f ∷ fs) xs ≡ fieldsAt c (f ∷ fs) xs
+    by true e g z = rw (formed-field f (t .0) (drop (c - 1) xs) (narrow-first f fs h) (eqb-true n 0 e), g z)
+    by false e g z = absurd (true≢false (sym (eq-eqb n 0 z) ∙ e))
+
+pub narrow-layout : (k : Kind) → narrow (layout k) ≡ true
+narrow-layout FileHeader = refl
+narrow-layout BatchHeaderB = refl
+narrow-layout BatchHeaderC = refl
+narrow-layout FixedDescription = refl
+narrow-layout OrderingParty = refl
+narrow-layout Transaction = refl
+narrow-layout NamePayer = refl
+narrow-layout CityPayer = refl
+narrow-layout PaymentReference = refl
+narrow-layout Description = refl
+narrow-layout NameBeneficiary = refl
+narrow-layout CityBeneficiary = refl
+narrow-layout BatchTrailer = refl
+narrow-layout FileTrailer = refl
+
+pub valued : (said : Bool) (g : Group) (b : Batch) (k : Kind) (xs : List ℕ) → faultOf said g b k xs .number ≡ 0 → valuesOf k xs ≡ fieldsOf k xs
+unfolding faultOf firstFault
+valued said g b k xs z = formed 6 (layout k) (testsFor said g b k (fieldsOf k xs)) xs (checkRows (maximaFor b k (fieldsOf k xs))) (narrow-layout k) z
+
+-- ## For users: the value of a field is small
+
+pow10-some : (n : ℕ) → 1 ≤ pow10 n
+pow10-some zero = omega arith
+pow10-some (suc n) = omega (arith, pow10-some n)
+
+pow10-up : (n m : ℕ) → n ≤ m → pow10 n ≤ pow10 m
+pow10-up zero m h = pow10-some m
+pow10-up (suc n) zero h = absurd (omega arith)
+pow10-up (suc n) (suc m) h = let k : n ≤ m = omega arith in omega (arith, pow10-up n m k)
+
+-- at most 18 digits
+pub value-below : (l : List ℕ) → digitsOf l .value < 1000000000000000000
+unfolding digitsOf pick
+value-below l = by (leb (length l) 18) (all isDigit l) refl refl
+  where
+    by : (q u : Bool) → leb (length l) 18 ≡ q → all isDigit l ≡ u → pick (q && u) (record { ok = true; value = valueOf l }) noDigits .value < 1000000000000000000
+    by true true h e =
+        let t : T (all isDigit l) = subst T (sym e) tt in
+        let a : valueOf l < pow10 (length l) = read-field (numeric (length l)) l refl t .0 in
+        let b : pow10 (length l) ≤ 1000000000000000000 = pow10-up (length l) 18 (leb-true (length l) 18 h) in
+        omega (arith, a, b)
+    by true false h e = omega arith
+    by false u h e = omega arith
+
+pub value-small : (l : List ℕ) → digitsOf l .value ≤ 1000000000000000000
+value-small l = omega (arith, value-below l)

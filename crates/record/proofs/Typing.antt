@@ -1,0 +1,70 @@
+-- Groups and transaction types. Assumes nothing.
+use Prim.Native.Nat.{ℕ}
+use mathlib.Core.Path.{_≡_, sym, _∙_}
+use mathlib.Core.List.{List, _∷_}
+use mathlib.Core.Bool.{Bool, true, false}
+use Rattle.machine.specs.Lists.{pick, same}
+use Rattle.format.specs.Rules.{groupText, isGroup, sameGroup, typeGroup}
+use Rattle.format.specs.Answers.{wrongValue}
+use Rattle.format.specs.Tests.{test, groupTests, typeTests}
+use Rattle.format.specs.declared.Group.{Group}
+use Rattle.format.specs.declared.TransactionType.{TransactionType}
+use Rattle.format.specs.declared.TypeRead.{TypeRead}
+use Rattle.format.specs.declared.TypeRead.the-variants.{Of, NoType}
+use Rattle.field.specs.Rows.{firstNo}
+use Rattle.field.proofs.Forms.{form-stop, form-on}
+use Rattle.record.specs.Faults.{groupSaid}
+
+-- ## Groups
+
+pub text-via : {g h : Group} {x : Bool} (l : List ℕ) → g ≡ h → x ≡ same l (groupText h) → x ≡ same l (groupText g)
+text-via l e p = rw e p
+
+-- a group, and the one so far where that is said
+abbrev groupNo : Bool → Group → List ℕ → ℕ
+groupNo said g l = firstNo (test (isGroup l) wrongValue ∷ groupTests (groupSaid said g) l)
+
+module _ {p : List ℕ} {a : Bool} (l : List ℕ) (d : p ≡ l) (e : a ≡ isGroup p) where
+  is-group : {v : Bool} → a ≡ v → isGroup l ≡ v
+  is-group h = rw (← d) (sym e ∙ h)
+
+  module _ (said : Bool) (g : Group) where
+    pub group-wrong : a ≡ false → 5 ≡ groupNo said g l
+    unfolding pick
+    group-wrong h = rw (is-group h)
+
+    module _ (h : a ≡ true) where
+      pub group-free : said ≡ false → 0 ≡ groupNo said g l
+      unfolding pick
+      group-free k = rw (is-group h, k)
+
+      module _ {b : Bool} (k : said ≡ true) (f : b ≡ same p (groupText g)) where
+        is-text : {v : Bool} → b ≡ v → same l (groupText g) ≡ v
+        is-text u = rw (← d) (sym f ∙ u)
+
+        pub group-right : b ≡ true → 0 ≡ groupNo said g l
+        unfolding pick
+        group-right u = rw (is-group h, k, is-text u)
+
+        pub group-other : b ≡ false → 7 ≡ groupNo said g l
+        unfolding pick
+        group-other u = rw (is-group h, k, is-text u)
+
+pub ruleset groups = (form-stop, form-on, group-wrong, group-free, group-right, group-other)
+
+-- ## Types
+
+module _ {t : TypeRead} {y : TransactionType} {h : Group} {b : Bool} (g : Group) (e : t ≡ Of y) (k : h ≡ typeGroup y) (s : b ≡ sameGroup g h) where
+  pub type-right : b ≡ true → 0 ≡ firstNo (typeTests g t)
+  unfolding pick
+  type-right v = let q : sameGroup g (typeGroup y) ≡ true = rw (← k) (sym s ∙ v) in rw (e, q)
+
+  pub type-other : b ≡ false → 7 ≡ firstNo (typeTests g t)
+  unfolding pick
+  type-other v = let q : sameGroup g (typeGroup y) ≡ false = rw (← k) (sym s ∙ v) in rw (e, q)
+
+pub type-none : {t : TypeRead} (g : Group) → t ≡ NoType → 5 ≡ firstNo (typeTests g t)
+unfolding pick
+type-none g e = rw e
+
+pub ruleset types = (type-right, type-other, type-none)

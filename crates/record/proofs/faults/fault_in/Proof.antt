@@ -1,0 +1,52 @@
+use borrow.Author.Needs.{needs}
+use Rattle.record.proofs.Faulting.{at-file-header, at-header-b, at-header-c, at-fixed, at-ordering, at-transaction, at-name-payer, at-city-payer, at-reference, at-description, at-name-beneficiary, at-city-beneficiary, at-batch-trailer, at-file-trailer}
+use Rattle.record.proofs.faults.fault_in.Statement.{statement}
+use Rattle.record.proofs.faults.fault_in.Tie as tie
+
+pub fault-in-spec : {M : Type 1} → statement M
+fault-in-spec =
+    tie.close
+    (tie.spec
+    (λ c. search needs)  -- enum-told
+    (λ c κs. search needs)  -- file-header-requires
+    (λ c. search needs)  -- enum-told-2
+    (λ c κs. search needs)  -- batch-header-requires
+    (λ c. search needs)  -- enum-told-3
+    (λ c κs. search needs)  -- batch-header-requires-2
+    (λ c. search needs)  -- enum-told-4
+    (λ c κs. search needs)  -- text-requires
+    (λ c. search needs)  -- enum-told-5
+    (λ c κs. search needs)  -- ordering-party-requires
+    (λ c. search needs)  -- enum-told-6
+    (λ c κs. search needs)  -- transaction-fault-requires
+    (λ c. search needs)  -- enum-told-7
+    (λ c κs. search needs)  -- text-requires-2
+    (λ c. search needs)  -- enum-told-8
+    (λ c κs. search needs)  -- city-requires
+    (λ c. search needs)  -- enum-told-9
+    (λ c κs. search needs)  -- text-requires-3
+    (λ c. search needs)  -- enum-told-10
+    (λ c κs. search needs)  -- text-requires-4
+    (λ c. search needs)  -- enum-told-11
+    (λ c κs. search needs)  -- text-requires-5
+    (λ c. search needs)  -- enum-told-12
+    (λ c κs. search needs)  -- city-requires-2
+    (λ c. search needs)  -- enum-told-13
+    (λ c κs. search needs)  -- batch-trailer-requires
+    (λ c. search needs)  -- enum-told-14
+    (λ c κs. search needs)  -- file-trailer-requires
+    (λ c. search at-file-header depth 20 fits 10000)  -- returns
+    (λ c. search at-header-b depth 20 fits 10000)  -- returns-2
+    (λ c. search at-header-c depth 20 fits 10000)  -- returns-3
+    (λ c. search at-fixed depth 20 fits 10000)  -- returns-4
+    (λ c. search at-ordering depth 20 fits 10000)  -- returns-5
+    (λ c. search at-transaction depth 20 fits 10000)  -- returns-6
+    (λ c. search at-name-payer depth 20 fits 10000)  -- returns-7
+    (λ c. search at-city-payer depth 20 fits 10000)  -- returns-8
+    (λ c. search at-reference depth 20 fits 10000)  -- returns-9
+    (λ c. search at-description depth 20 fits 10000)  -- returns-10
+    (λ c. search at-name-beneficiary depth 20 fits 10000)  -- returns-11
+    (λ c. search at-city-beneficiary depth 20 fits 10000)  -- returns-12
+    (λ c. search at-batch-trailer depth 20 fits 10000)  -- returns-13
+    (λ c. search at-file-trailer depth 20 fits 10000)  -- returns-14
+    )

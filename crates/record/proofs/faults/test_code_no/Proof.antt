@@ -1,0 +1,22 @@
+use borrow.Author.Needs.{needs}
+use Rattle.format.specs.Rules.{isTestCode}
+use Rattle.field.proofs.Forms.{forms}
+use Rattle.record.proofs.faults.test_code_no.Statement.{statement}
+use Rattle.record.proofs.faults.test_code_no.Tie as tie
+
+pub test-code-no-spec : {M : Type 1} → statement M
+unfolding isTestCode
+test-code-no-spec =
+    tie.close
+    (tie.spec
+    (λ c κs. search needs)  -- filled-no-requires
+    (λ c. search forms depth 20 fits 10000)  -- returns
+    (λ c κs. search needs)  -- part-requires
+    (λ c. search needs)  -- slice-aggregate-is-same
+    (λ c κs. search needs)  -- is-same-requires
+    (λ c. search forms depth 20 fits 10000)  -- returns-2
+    (λ c. search needs)  -- slice-aggregate-is-same-2
+    (λ c κs. search needs)  -- is-same-requires-2
+    (λ c. search forms depth 20 fits 10000)  -- returns-3
+    (λ c. search forms depth 20 fits 10000)  -- returns-4
+    )

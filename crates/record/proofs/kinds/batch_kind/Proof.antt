@@ -1,0 +1,29 @@
+use borrow.Author.Needs.{needs}
+use Rattle.record.specs.Kinds.{batchCode}
+use Rattle.field.proofs.Picks.{picks}
+use Rattle.record.proofs.kinds.batch_kind.Statement.{statement}
+use Rattle.record.proofs.kinds.batch_kind.Tie as tie
+
+pub batch-kind-spec : {M : Type 1} → statement M
+unfolding batchCode
+batch-kind-spec =
+    tie.close
+    (tie.spec
+    (λ c. search needs)  -- slice-aggregate-is-same
+    (λ c κs. search needs)  -- is-same-requires
+    (λ c. search picks depth 20 fits 10000)  -- returns
+    (λ c. search needs)  -- slice-aggregate-is-same-2
+    (λ c κs. search needs)  -- is-same-requires-2
+    (λ c. search picks depth 20 fits 10000)  -- returns-2
+    (λ c. search needs)  -- slice-aggregate-is-same-3
+    (λ c κs. search needs)  -- is-same-requires-3
+    (λ c. search picks depth 20 fits 10000)  -- returns-3
+    (λ c. search needs)  -- slice-aggregate-is-same-4
+    (λ c κs. search needs)  -- is-same-requires-4
+    (λ c. search picks depth 20 fits 10000)  -- returns-4
+    (λ c. search needs)  -- slice-aggregate-is-same-5
+    (λ c κs. search needs)  -- is-same-requires-5
+    (λ c. search picks depth 20 fits 10000)  -- returns-5
+    (λ c κs. search needs)  -- file-kind-requires
+    (λ c. search picks depth 20 fits 10000)  -- returns-6
+    )

@@ -1,0 +1,20 @@
+use borrow.Author.Needs.{needs}
+use Rattle.record.specs.Kinds.{debitCode}
+use Rattle.field.proofs.Picks.{picks}
+use Rattle.record.proofs.kinds.debit_kind.Statement.{statement}
+use Rattle.record.proofs.kinds.debit_kind.Tie as tie
+
+pub debit-kind-spec : {M : Type 1} → statement M
+unfolding debitCode
+debit-kind-spec =
+    tie.close
+    (tie.spec
+    (λ c. search needs)  -- slice-aggregate-is-same
+    (λ c κs. search needs)  -- is-same-requires
+    (λ c. search picks depth 20 fits 10000)  -- returns
+    (λ c. search needs)  -- slice-aggregate-is-same-2
+    (λ c κs. search needs)  -- is-same-requires-2
+    (λ c. search picks depth 20 fits 10000)  -- returns-2
+    (λ c κs. search needs)  -- batch-kind-requires
+    (λ c. search picks depth 20 fits 10000)  -- returns-3
+    )

@@ -1,0 +1,15 @@
+use borrow.Author.Needs.{needs}
+use Rattle.field.proofs.Forms.{forms}
+use Rattle.record.proofs.types.group_in.Statement.{statement}
+use Rattle.record.proofs.types.group_in.Tie as tie
+
+pub group-in-spec : {M : Type 1} → statement M
+group-in-spec =
+    tie.close
+    (tie.spec
+    (λ c κs. search needs)  -- part-requires
+    (λ c. search needs)  -- slice-aggregate-is-same
+    (λ c κs. search needs)  -- is-same-requires
+    (λ c. search forms depth 20 fits 10000)  -- returns
+    (λ c. search forms depth 20 fits 10000)  -- returns-2
+    )

@@ -1,0 +1,14 @@
+use borrow.Author.Needs.{needs}
+use Rattle.field.proofs.Forms.{forms}
+use Rattle.record.proofs.types.type_no.Statement.{statement}
+use Rattle.record.proofs.types.type_no.Tie as tie
+
+pub type-no-spec : {M : Type 1} → statement M
+type-no-spec =
+    tie.close
+    (tie.spec
+    (λ c κs. search needs)  -- filled-no-requires
+    (λ c. search forms depth 20 fits 10000)  -- returns
+    (λ c κs. search needs)  -- type-fault-requires
+    (λ c. search forms depth 20 fits 10000)  -- returns-2
+    )

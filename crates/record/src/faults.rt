@@ -1,0 +1,407 @@
+// What is wrong in a record, field by field from the left. The columns and widths are those of 01's record table.
+ghost use mathlib.Core.Path.{_≡_};
+ghost use mathlib.Core.Bool.{false};
+ghost use mathlib.Core.List.{[], _∷_};
+ghost use lib.ListN.{take, drop};
+ghost use Rattle.machine.specs.Lists.{pick, inRange};
+ghost use Rattle.machine.specs.Digits.{valueOf};
+ghost use Rattle.format.specs.Fields.{numeric, filled, filler};
+ghost use Rattle.format.specs.Answers.{wrongValue, differs};
+ghost use Rattle.format.specs.Rules.{maxAmount, maxSequence, isIdentification, isOfDay, isNameCodeIn, isTestCode, sameGroup};
+ghost use Rattle.format.specs.Tests.{test, isNext, fileHeaderTests, orderingPartyTests, batchTrailerTests};
+ghost use Rattle.format.specs.declared.Kind.the-variants.{FileHeader, OrderingParty, CityPayer, BatchTrailer, FileTrailer};
+ghost use Rattle.format.specs.declared.Kind.the-variants as kinds;
+ghost use Rattle.format.specs.declared.Group.the-variants.{Payments, Debits};
+ghost use Rattle.field.specs.Rows.{row, fieldNo};
+ghost use Rattle.field.specs.Leaf.{numericOf, rangeTests, partyTests};
+ghost use Rattle.record.specs.Faults.{faultAt, firstFault, fieldsOf, fieldsFault, groupSaid, headerFault, textFault, maximaFault, faultOf};
+ghost use Rattle.record.specs.Read.{refusedTransaction, takenTransaction, transactionOf};
+use crate::Batch;
+use crate::Fault;
+use crate::Transaction;
+use crate::TransactionRead;
+use crate::types::group_no;
+use crate::types::type_in;
+use crate::types::type_no;
+use crate::types::type_or;
+use field::accounts::ordering;
+use field::accounts::party;
+use field::bytes::is_digits;
+use field::bytes::is_same;
+use field::bytes::part;
+use field::dates::date;
+use field::dates::desired_no;
+use field::numbers::Numeric;
+use field::numbers::digits_at;
+use field::numbers::equal_no;
+use field::numbers::in_range;
+use field::numbers::ranged;
+use field::numbers::total_no;
+use field::texts::exactly_no;
+use field::texts::filled_no;
+use field::texts::filler_no;
+use field::texts::free_no;
+use field::texts::optional_no;
+use format::Group;
+use format::Kind;
+use format::TransactionType;
+use format::TypeRead;
+
+fn fault(number: u8, column: u8) -> Fault
+    ensures { λ r. ⌜ r ≡ faultAt column number ⌝ }
+{
+    Fault { number, column }
+}
+
+fn last(number: u8, column: u8) -> Fault
+    ensures { λ r. ⌜ r ≡ firstFault (row column number ∷ []) ⌝ }
+{
+    if number != 0 {
+        return fault(number, column);
+    }
+    fault(0, 0)
+}
+
+// The creation day, then a counter 01 to 99.
+fn identification_no(line: &[u8], created: u64) -> u8
+    ensures { λ r. ⌜ r ≡ fieldNo (filled 4) (test (isIdentification (take 4 (drop 24 (now (line .entry))))) wrongValue ∷ test (isOfDay created (take 4 (drop 24 (now (line .entry))))) differs ∷ []) (take 4 (drop 24 (now (line .entry)))) ⌝ }
+{
+    let f = filled_no(line, 24, 4);
+    if f != 0 {
+        return f;
+    }
+    if is_digits(part(line, 24, 4)) {
+        if is_same(part(line, 26, 2), b"00") {
+            return format::WRONG_VALUE;
+        }
+        let day = digits_at(line, 24, 2);
+        if day.value == created / 10000 {
+            0
+        } else {
+            format::DIFFERS
+        }
+    } else {
+        format::WRONG_VALUE
+    }
+}
+
+fn file_header(line: &[u8]) -> Fault
+    ensures { λ r. ⌜ r ≡ fieldsFault FileHeader (fileHeaderTests (fieldsOf FileHeader (now (line .entry)))) (now (line .entry)) ⌝ }
+{
+    let created = date(line, 5);
+    if created.number != 0 {
+        return fault(created.number, 6);
+    }
+    let name = exactly_no(line, 11, 8, b"CLIEOP03");
+    if name != 0 {
+        return fault(name, 12);
+    }
+    let sender = filled_no(line, 19, 5);
+    if sender != 0 {
+        return fault(sender, 20);
+    }
+    let identification = identification_no(line, created.value);
+    if identification != 0 {
+        return fault(identification, 25);
+    }
+    let duplicate = ranged(line, 28, 1, 1, 2);
+    if duplicate.number != 0 {
+        return fault(duplicate.number, 29);
+    }
+    last(filler_no(line, 29, 21), 30)
+}
+
+// A number from 1 to 9999, and the one after that before it where there is one.
+fn sequence_no(line: &[u8], before: u64) -> u8
+    ensures { λ r. ⌜ r ≡ fieldNo (numeric 4) (test (inRange 1 maxSequence (valueOf (take 4 (drop 17 (now (line .entry)))))) wrongValue ∷ test (isNext before (valueOf (take 4 (drop 17 (now (line .entry)))))) differs ∷ []) (take 4 (drop 17 (now (line .entry)))) ⌝ }
+{
+    let n = ranged(line, 17, 4, 1, 9999);
+    if n.number != 0 {
+        return n.number;
+    }
+    if before == 0 {
+        return 0;
+    }
+    if n.value - 1 == before {
+        0
+    } else {
+        format::DIFFERS
+    }
+}
+
+// Filled for variant C, blank for B.
+fn batch_identification_no(line: &[u8], identified: bool) -> u8
+    ensures { λ r. ⌜ r ≡ pick identified (fieldNo (filled 16) [] (take 16 (drop 24 (now (line .entry))))) (fieldNo (filler 16) [] (take 16 (drop 24 (now (line .entry))))) ⌝ }
+{
+    if identified {
+        filled_no(line, 24, 16)
+    } else {
+        filler_no(line, 24, 16)
+    }
+}
+
+fn batch_header(line: &[u8], identified: bool, said: bool, group: Group, before: u64) -> Fault
+    ensures { λ r. ⌜ r ≡ headerFault identified (groupSaid said group) before (now (line .entry)) ⌝ }
+{
+    let g = group_no(line, said, group);
+    if g != 0 {
+        return fault(g, 6);
+    }
+    let account = ordering(line, 7);
+    if account.number != 0 {
+        return fault(account.number, 8);
+    }
+    let sequence = sequence_no(line, before);
+    if sequence != 0 {
+        return fault(sequence, 18);
+    }
+    let currency = exactly_no(line, 21, 3, b"EUR");
+    if currency != 0 {
+        return fault(currency, 22);
+    }
+    let identification = batch_identification_no(line, identified);
+    if identification != 0 {
+        return fault(identification, 25);
+    }
+    last(filler_no(line, 40, 10), 41)
+}
+
+fn name_code_no(line: &[u8], group: Group) -> u8
+    ensures { λ r. ⌜ r ≡ fieldNo (numeric 1) (test (inRange 1 2 (valueOf (take 1 (drop 5 (now (line .entry)))))) wrongValue ∷ test (isNameCodeIn group (valueOf (take 1 (drop 5 (now (line .entry)))))) differs ∷ []) (take 1 (drop 5 (now (line .entry)))) ⌝ }
+{
+    let n = ranged(line, 5, 1, 1, 2);
+    if n.number != 0 {
+        return n.number;
+    }
+    match group {
+        Group::Payments => 0,
+        Group::Debits => if n.value == 1 { 0 } else { format::DIFFERS },
+    }
+}
+
+fn test_code_no(line: &[u8]) -> u8
+    ensures { λ r. ⌜ r ≡ fieldNo (filled 1) (test (isTestCode (take 1 (drop 47 (now (line .entry))))) wrongValue ∷ []) (take 1 (drop 47 (now (line .entry)))) ⌝ }
+{
+    let f = filled_no(line, 47, 1);
+    if f != 0 {
+        return f;
+    }
+    let code = part(line, 47, 1);
+    if is_same(code, b"P") {
+        return 0;
+    }
+    if is_same(code, b"T") {
+        0
+    } else {
+        format::WRONG_VALUE
+    }
+}
+
+fn ordering_party(line: &[u8], group: Group) -> Fault
+    ensures { λ r. ⌜ r ≡ fieldsFault OrderingParty (orderingPartyTests group (fieldsOf OrderingParty (now (line .entry)))) (now (line .entry)) ⌝ }
+{
+    let code = name_code_no(line, group);
+    if code != 0 {
+        return fault(code, 6);
+    }
+    let desired = desired_no(line, 6);
+    if desired != 0 {
+        return fault(desired, 7);
+    }
+    let name = optional_no(line, 12, 35);
+    if name != 0 {
+        return fault(name, 13);
+    }
+    let test = test_code_no(line);
+    if test != 0 {
+        return fault(test, 48);
+    }
+    last(filler_no(line, 48, 2), 49)
+}
+
+fn is_payments(g: Group) -> bool
+    ensures { λ r. ⌜ r ≡ sameGroup Payments g ⌝ }
+{
+    match g {
+        Group::Payments => true,
+        Group::Debits => false,
+    }
+}
+
+fn is_debits(g: Group) -> bool
+    ensures { λ r. ⌜ r ≡ sameGroup Debits g ⌝ }
+{
+    match g {
+        Group::Payments => false,
+        Group::Debits => true,
+    }
+}
+
+fn amount_in(line: &[u8]) -> Numeric
+    ensures { λ r. ⌜ r ≡ numericOf (rangeTests 1 maxAmount) (take 12 (drop 9 (now (line .entry)))) ⌝ }
+{
+    in_range(digits_at(line, 9, 12), 1, Transaction::MAX_AMOUNT)
+}
+
+fn payer_in(line: &[u8], group: Group, own: u64) -> Numeric
+    ensures { λ r. ⌜ r ≡ numericOf (partyTests (sameGroup Payments group) own) (take 10 (drop 21 (now (line .entry)))) ⌝ }
+{
+    party(line, 21, is_payments(group), own)
+}
+
+fn beneficiary_in(line: &[u8], group: Group, own: u64) -> Numeric
+    ensures { λ r. ⌜ r ≡ numericOf (partyTests (sameGroup Debits group) own) (take 10 (drop 31 (now (line .entry)))) ⌝ }
+{
+    party(line, 31, is_debits(group), own)
+}
+
+fn transaction_of(t: TypeRead, amount: u64, payer: u64, beneficiary: u64) -> TransactionRead
+    ensures { λ r. ⌜ r ≡ takenTransaction t amount payer beneficiary ⌝ }
+{
+    let kind = type_or(t);
+    let read = Transaction {
+        kind,
+        amount,
+        payer,
+        beneficiary,
+    };
+    TransactionRead {
+        number: 0,
+        column: 0,
+        read,
+    }
+}
+
+fn no_transaction(number: u8, column: u8) -> TransactionRead
+    ensures { λ r. ⌜ r ≡ refusedTransaction column number ⌝ }
+{
+    let read = Transaction {
+        kind: TransactionType::Creditor,
+        amount: 0,
+        payer: 0,
+        beneficiary: 0,
+    };
+    TransactionRead {
+        number,
+        column,
+        read,
+    }
+}
+
+// The fields of a transaction, and what is wrong in them first.
+pub fn transaction_in(line: &[u8], group: Group, own: u64) -> TransactionRead
+    ensures { λ r. ⌜ r ≡ transactionOf group own (now (line .entry)) ⌝ }
+{
+    let t = type_in(line);
+    let kind = type_no(line, t, group);
+    if kind != 0 {
+        return no_transaction(kind, 6);
+    }
+    let amount = amount_in(line);
+    if amount.number != 0 {
+        return no_transaction(amount.number, 10);
+    }
+    let payer = payer_in(line, group, own);
+    if payer.number != 0 {
+        return no_transaction(payer.number, 22);
+    }
+    let beneficiary = beneficiary_in(line, group, own);
+    if beneficiary.number != 0 {
+        return no_transaction(beneficiary.number, 32);
+    }
+    let filler = filler_no(line, 41, 9);
+    if filler != 0 {
+        return no_transaction(filler, 42);
+    }
+    transaction_of(t, amount.value, payer.value, beneficiary.value)
+}
+
+// The batch's maxima, with a next amount.
+pub fn maxima_fault(batch: Batch, next: u64) -> Fault
+    ensures { λ r. ⌜ r ≡ maximaFault batch next ⌝ }
+{
+    if Batch::MAX_ITEMS <= batch.items {
+        return fault(format::ABOVE_MAXIMUM, 1);
+    }
+    if Batch::MAX_TOTAL < next {
+        return fault(format::ABOVE_MAXIMUM, 10);
+    }
+    if Batch::MAX_TOTAL - next < batch.total {
+        return fault(format::ABOVE_MAXIMUM, 10);
+    }
+    fault(0, 0)
+}
+
+fn transaction_fault(line: &[u8], group: Group, batch: Batch) -> Fault
+    ensures { λ r. ⌜ r ≡ faultOf false group batch kinds.Transaction (now (line .entry)) ⌝ }
+{
+    let r = transaction_in(line, group, batch.account);
+    if r.number != 0 {
+        return fault(r.number, r.column);
+    }
+    let t = r.read;
+    maxima_fault(batch, t.amount)
+}
+
+// A text of that width, and spaces after it.
+fn text(line: &[u8], width: usize, at: usize, rest: usize, column: u8) -> Fault
+    ensures { λ r. ⌜ r ≡ textFault width at rest column (now (line .entry)) ⌝ }
+{
+    let t = filled_no(line, 5, width);
+    if t != 0 {
+        return fault(t, 6);
+    }
+    last(filler_no(line, at, rest), column)
+}
+
+fn city(line: &[u8]) -> Fault
+    ensures { λ r. ⌜ r ≡ fieldsFault CityPayer ([], tt) (now (line .entry)) ⌝ }
+{
+    last(free_no(line, 5, 45), 6)
+}
+
+fn batch_trailer(line: &[u8], batch: Batch) -> Fault
+    ensures { λ r. ⌜ r ≡ fieldsFault BatchTrailer (batchTrailerTests (batch .total) (batch .accounts) (batch .items) (fieldsOf BatchTrailer (now (line .entry)))) (now (line .entry)) ⌝ }
+{
+    let total = total_no(line, 5, 18, 1, Batch::MAX_TOTAL, batch.total);
+    if total != 0 {
+        return fault(total, 6);
+    }
+    let accounts = equal_no(line, 23, 10, batch.accounts);
+    if accounts != 0 {
+        return fault(accounts, 24);
+    }
+    let items = total_no(line, 33, 7, 1, Batch::MAX_ITEMS, batch.items);
+    if items != 0 {
+        return fault(items, 34);
+    }
+    last(filler_no(line, 40, 10), 41)
+}
+
+fn file_trailer(line: &[u8]) -> Fault
+    ensures { λ r. ⌜ r ≡ fieldsFault FileTrailer ([], tt) (now (line .entry)) ⌝ }
+{
+    last(filler_no(line, 5, 45), 6)
+}
+
+// The first fault of a line of that kind, after a batch so far and the group, where it is said.
+pub fn fault_in(kind: Kind, line: &[u8], said: bool, group: Group, batch: Batch) -> Fault
+    ensures { λ r. ⌜ r ≡ faultOf said group batch kind (now (line .entry)) ⌝ }
+{
+    match kind {
+        Kind::FileHeader => file_header(line),
+        Kind::BatchHeaderB => batch_header(line, false, said, group, batch.sequence),
+        Kind::BatchHeaderC => batch_header(line, true, said, group, batch.sequence),
+        Kind::FixedDescription => text(line, 32, 37, 13, 38),
+        Kind::OrderingParty => ordering_party(line, group),
+        Kind::Transaction => transaction_fault(line, group, batch),
+        Kind::NamePayer => text(line, 35, 40, 10, 41),
+        Kind::CityPayer => city(line),
+        Kind::PaymentReference => text(line, 16, 21, 29, 22),
+        Kind::Description => text(line, 32, 37, 13, 38),
+        Kind::NameBeneficiary => text(line, 35, 40, 10, 41),
+        Kind::CityBeneficiary => city(line),
+        Kind::BatchTrailer => batch_trailer(line, batch),
+        Kind::FileTrailer => file_trailer(line),
+    }
+}

@@ -1,0 +1,84 @@
+// Code and variant.
+ghost use mathlib.Core.Path.{_≡_};
+ghost use lib.ListN.{take};
+ghost use Rattle.record.specs.Kinds.{fileCode, batchCode, debitCode, codeOf};
+use field::bytes::is_same;
+use field::bytes::part;
+use format::Code;
+use format::Kind;
+
+// The records of a file's frame.
+fn file_kind(s: &[u8]) -> Code
+    ensures { λ r. ⌜ r ≡ fileCode (now (s .entry)) ⌝ }
+{
+    if is_same(s, b"0001A") {
+        return Code::Of(Kind::FileHeader);
+    }
+    if is_same(s, b"9999A") {
+        return Code::Of(Kind::FileTrailer);
+    }
+    Code::Unknown
+}
+
+// The records of a batch's frame.
+fn batch_kind(s: &[u8]) -> Code
+    ensures { λ r. ⌜ r ≡ batchCode (now (s .entry)) ⌝ }
+{
+    if is_same(s, b"0010B") {
+        return Code::Of(Kind::BatchHeaderB);
+    }
+    if is_same(s, b"0010C") {
+        return Code::Of(Kind::BatchHeaderC);
+    }
+    if is_same(s, b"0020A") {
+        return Code::Of(Kind::FixedDescription);
+    }
+    if is_same(s, b"0030B") {
+        return Code::Of(Kind::OrderingParty);
+    }
+    if is_same(s, b"9990A") {
+        return Code::Of(Kind::BatchTrailer);
+    }
+    file_kind(s)
+}
+
+// The records that only debits have.
+fn debit_kind(s: &[u8]) -> Code
+    ensures { λ r. ⌜ r ≡ debitCode (now (s .entry)) ⌝ }
+{
+    if is_same(s, b"0110B") {
+        return Code::Of(Kind::NamePayer);
+    }
+    if is_same(s, b"0113B") {
+        return Code::Of(Kind::CityPayer);
+    }
+    batch_kind(s)
+}
+
+// The records of a payment, the most frequent ones.
+fn kind_in(s: &[u8]) -> Code
+    ensures { λ r. ⌜ r ≡ codeOf (now (s .entry)) ⌝ }
+{
+    if is_same(s, b"0100A") {
+        return Code::Of(Kind::Transaction);
+    }
+    if is_same(s, b"0150A") {
+        return Code::Of(Kind::PaymentReference);
+    }
+    if is_same(s, b"0160A") {
+        return Code::Of(Kind::Description);
+    }
+    if is_same(s, b"0170B") {
+        return Code::Of(Kind::NameBeneficiary);
+    }
+    if is_same(s, b"0173B") {
+        return Code::Of(Kind::CityBeneficiary);
+    }
+    debit_kind(s)
+}
+
+pub fn code_of(line: &[u8]) -> Code
+    ensures { λ r. ⌜ r ≡ codeOf (take 5 (now (line .entry))) ⌝ }
+{
+    kind_in(part(line, 0, 5))
+}

@@ -1,0 +1,98 @@
+// Records of a line, without the reading state: their kind, what is wrong in them from the left, and their fields.
+ghost use mathlib.Core.Path.{_≡_};
+ghost use Rattle.record.specs.Faults.{emptyBatch};
+use format::Group;
+use format::TransactionType;
+
+pub mod faults;
+pub mod kinds;
+pub mod read;
+pub mod types;
+
+// What is wrong in a line: the answer's number and its column, 0 and 0 where nothing is.
+pub struct Fault {
+    pub number: u8,
+    pub column: u8,
+}
+
+// A batch so far: what its header said, what its items come to, and how many fixed descriptions it has.
+pub struct Batch {
+    pub account: u64,
+    pub sequence: u64,
+    pub items: u64,
+    pub total: u64,
+    pub accounts: u64,
+    pub fixed: u64,
+}
+
+impl Batch {
+    pub const MAX_ITEMS: u64 = 100000;
+
+    pub const MAX_TOTAL: u64 = 4537802160901;
+
+    pub fn empty() -> Batch
+        ensures { λ r. ⌜ r ≡ emptyBatch ⌝ }
+    {
+        Batch {
+            account: 0,
+            sequence: 0,
+            items: 0,
+            total: 0,
+            accounts: 0,
+            fixed: 0,
+        }
+    }
+}
+
+pub struct Transaction {
+    pub kind: TransactionType,
+    pub amount: u64,
+    pub payer: u64,
+    pub beneficiary: u64,
+}
+
+impl Transaction {
+    pub const MAX_AMOUNT: u64 = 45378021608;
+}
+
+// A transaction read, or what is wrong in it.
+pub struct TransactionRead {
+    pub number: u8,
+    pub column: u8,
+    pub read: Transaction,
+}
+
+// A record of each kind with its numbers; its text stands beside it.
+pub enum Record {
+    Nothing,
+    FileHeader {
+        created: u64,
+        identification: u64,
+        duplicate: u64,
+    },
+    BatchHeader {
+        group: Group,
+        account: u64,
+        sequence: u64,
+        identified: bool,
+    },
+    FixedDescription,
+    OrderingParty {
+        code: u64,
+        desired: u64,
+        test: bool,
+    },
+    Item(Transaction),
+    NamePayer,
+    CityPayer,
+    PaymentReference,
+    Description,
+    NameBeneficiary,
+    CityBeneficiary,
+    BatchTrailer {
+        total: u64,
+        accounts: u64,
+        items: u64,
+    },
+    FileTrailer,
+}

@@ -1,0 +1,140 @@
+// The record of an accepted line, and its text.
+ghost use mathlib.Core.Path.{_≡_};
+ghost use lib.ListN.{take, drop};
+ghost use Rattle.format.specs.declared.Kind.the-variants.{FileHeader, OrderingParty, BatchTrailer};
+ghost use Rattle.format.specs.declared.Kind.the-variants as kinds;
+ghost use Rattle.field.specs.Leaf.{digitsOf};
+ghost use Rattle.record.specs.Read.{transactionFor, recordFor, headerFor, padded, textFor, valuesOf};
+use crate::Record;
+use crate::Transaction;
+use crate::types::group_in;
+use crate::types::type_in;
+use crate::types::type_or;
+use field::bytes::is_same;
+use field::bytes::part;
+use field::numbers::digits_at;
+use format::Kind;
+
+pub fn value_at(line: &[u8], at: usize, width: usize) -> u64
+    ensures { λ r. ⌜ r ≡ digitsOf (take width (drop at (now (line .entry)))) .value ⌝ }
+{
+    let d = digits_at(line, at, width);
+    d.value
+}
+
+pub fn transaction_at(line: &[u8]) -> Transaction
+    ensures { λ r. ⌜ r ≡ transactionFor (valuesOf kinds.Transaction (now (line .entry))) ⌝ }
+{
+    let kind = type_or(type_in(line));
+    Transaction {
+        kind,
+        amount: value_at(line, 9, 12),
+        payer: value_at(line, 21, 10),
+        beneficiary: value_at(line, 31, 10),
+    }
+}
+
+fn file_header_at(line: &[u8]) -> Record
+    ensures { λ r. ⌜ r ≡ recordFor FileHeader (valuesOf FileHeader (now (line .entry))) ⌝ }
+{
+    Record::FileHeader {
+        created: value_at(line, 5, 6),
+        identification: value_at(line, 24, 4),
+        duplicate: value_at(line, 28, 1),
+    }
+}
+
+fn batch_header_at(line: &[u8], identified: bool) -> Record
+    ensures { λ r. ⌜ r ≡ headerFor identified (now (line .entry)) ⌝ }
+{
+    Record::BatchHeader {
+        group: group_in(line),
+        account: value_at(line, 7, 10),
+        sequence: value_at(line, 17, 4),
+        identified,
+    }
+}
+
+fn ordering_party_at(line: &[u8]) -> Record
+    ensures { λ r. ⌜ r ≡ recordFor OrderingParty (valuesOf OrderingParty (now (line .entry))) ⌝ }
+{
+    Record::OrderingParty {
+        code: value_at(line, 5, 1),
+        desired: value_at(line, 6, 6),
+        test: is_same(part(line, 47, 1), b"T"),
+    }
+}
+
+fn batch_trailer_at(line: &[u8]) -> Record
+    ensures { λ r. ⌜ r ≡ recordFor BatchTrailer (valuesOf BatchTrailer (now (line .entry))) ⌝ }
+{
+    Record::BatchTrailer {
+        total: value_at(line, 5, 18),
+        accounts: value_at(line, 23, 10),
+        items: value_at(line, 33, 7),
+    }
+}
+
+pub fn record_in(kind: Kind, line: &[u8]) -> Record
+    ensures { λ r. ⌜ r ≡ recordFor kind (valuesOf kind (now (line .entry))) ⌝ }
+{
+    match kind {
+        Kind::FileHeader => file_header_at(line),
+        Kind::BatchHeaderB => batch_header_at(line, false),
+        Kind::BatchHeaderC => batch_header_at(line, true),
+        Kind::FixedDescription => Record::FixedDescription,
+        Kind::OrderingParty => ordering_party_at(line),
+        Kind::Transaction => Record::Item(transaction_at(line)),
+        Kind::NamePayer => Record::NamePayer,
+        Kind::CityPayer => Record::CityPayer,
+        Kind::PaymentReference => Record::PaymentReference,
+        Kind::Description => Record::Description,
+        Kind::NameBeneficiary => Record::NameBeneficiary,
+        Kind::CityBeneficiary => Record::CityBeneficiary,
+        Kind::BatchTrailer => batch_trailer_at(line),
+        Kind::FileTrailer => Record::FileTrailer,
+    }
+}
+
+// A text at the front of 35 places, the others spaces.
+fn padded_text(s: &[u8]) -> [u8; 35]
+    ensures { λ r. ⌜ r ≡ padded (now (s .entry)) ⌝ }
+{
+    let mut t = [32u8; 35];
+    if 35 < s.len() {
+        return t;
+    }
+    let mut i: usize = 0;
+    while i < s.len() {
+        t[i] = s[i];
+        i += 1;
+    }
+    t
+}
+
+fn text_at(line: &[u8], at: usize, width: usize) -> [u8; 35]
+    ensures { λ r. ⌜ r ≡ padded (take width (drop at (now (line .entry)))) ⌝ }
+{
+    padded_text(part(line, at, width))
+}
+
+pub fn text_in(kind: Kind, line: &[u8]) -> [u8; 35]
+    ensures { λ r. ⌜ r ≡ textFor kind (valuesOf kind (now (line .entry))) ⌝ }
+{
+    match kind {
+        Kind::FileHeader => text_at(line, 19, 5),
+        Kind::BatchHeaderB => [32u8; 35],
+        Kind::BatchHeaderC => text_at(line, 24, 16),
+        Kind::FixedDescription => text_at(line, 5, 32),
+        Kind::OrderingParty => text_at(line, 12, 35),
+        Kind::Transaction => [32u8; 35],
+        Kind::NamePayer => text_at(line, 5, 35),
+        Kind::CityPayer => [32u8; 35],
+        Kind::PaymentReference => text_at(line, 5, 16),
+        Kind::Description => text_at(line, 5, 32),
+        Kind::NameBeneficiary => text_at(line, 5, 35),
+        Kind::CityBeneficiary => [32u8; 35],
+        Kind::BatchTrailer => [32u8; 35],
+        Kind::FileTrailer => [32u8; 35],
+    }
+}

@@ -1,0 +1,176 @@
+// Groups and transaction types.
+ghost use mathlib.Core.Path.{_≡_};
+ghost use mathlib.Core.List.{_∷_};
+ghost use lib.ListN.{take, drop};
+ghost use Rattle.machine.specs.Lists.{same};
+ghost use Rattle.format.specs.Fields.{filled};
+ghost use Rattle.format.specs.Answers.{wrongValue};
+ghost use Rattle.format.specs.Rules.{groupText, isGroup, groupOf, sameGroup, typeOf, typeGroup, isUnchecked};
+ghost use Rattle.format.specs.Tests.{test, groupTests, typeTests};
+ghost use Rattle.field.specs.Rows.{firstNo, fieldNo};
+ghost use Rattle.record.specs.Faults.{groupSaid};
+ghost use Rattle.record.specs.Read.{typeOr};
+use field::bytes::is_same;
+use field::bytes::part;
+use field::texts::filled_no;
+use format::Group;
+use format::TransactionType;
+use format::TypeRead;
+
+pub fn group_in(line: &[u8]) -> Group
+    ensures { λ r. ⌜ r ≡ groupOf (take 2 (drop 5 (now (line .entry)))) ⌝ }
+{
+    if is_same(part(line, 5, 2), b"00") {
+        Group::Payments
+    } else {
+        Group::Debits
+    }
+}
+
+pub fn is_same_group(a: Group, b: Group) -> bool
+    ensures { λ r. ⌜ r ≡ sameGroup a b ⌝ }
+{
+    match a {
+        Group::Payments => match b {
+            Group::Payments => true,
+            Group::Debits => false,
+        },
+        Group::Debits => match b {
+            Group::Payments => false,
+            Group::Debits => true,
+        },
+    }
+}
+
+fn is_group(s: &[u8]) -> bool
+    ensures { λ r. ⌜ r ≡ isGroup (now (s .entry)) ⌝ }
+{
+    if is_same(s, b"00") {
+        return true;
+    }
+    is_same(s, b"10")
+}
+
+fn is_text_of(s: &[u8], group: Group) -> bool
+    ensures { λ r. ⌜ r ≡ same (now (s .entry)) (groupText group) ⌝ }
+{
+    match group {
+        Group::Payments => is_same(s, b"00"),
+        Group::Debits => is_same(s, b"10"),
+    }
+}
+
+// A group, and the one so far where that is said.
+pub fn group_no(line: &[u8], said: bool, group: Group) -> u8
+    ensures { λ r. ⌜ r ≡ fieldNo (filled 2) (test (isGroup (take 2 (drop 5 (now (line .entry))))) wrongValue ∷ groupTests (groupSaid said group) (take 2 (drop 5 (now (line .entry))))) (take 2 (drop 5 (now (line .entry)))) ⌝ }
+{
+    let f = filled_no(line, 5, 2);
+    if f != 0 {
+        return f;
+    }
+    let s = part(line, 5, 2);
+    if is_group(s) {
+        if said {
+            if is_text_of(s, group) {
+                0
+            } else {
+                format::DIFFERS
+            }
+        } else {
+            0
+        }
+    } else {
+        format::WRONG_VALUE
+    }
+}
+
+fn type_of(s: &[u8]) -> TypeRead
+    ensures { λ r. ⌜ r ≡ typeOf (now (s .entry)) ⌝ }
+{
+    if is_same(s, b"0000") {
+        return TypeRead::Of(TransactionType::UncheckedCreditor);
+    }
+    if is_same(s, b"0003") {
+        return TypeRead::Of(TransactionType::UncheckedSalary);
+    }
+    if is_same(s, b"0005") {
+        return TypeRead::Of(TransactionType::Creditor);
+    }
+    if is_same(s, b"0008") {
+        return TypeRead::Of(TransactionType::Salary);
+    }
+    if is_same(s, b"1001") {
+        return TypeRead::Of(TransactionType::Debit);
+    }
+    if is_same(s, b"1002") {
+        return TypeRead::Of(TransactionType::UncheckedDebit);
+    }
+    TypeRead::NoType
+}
+
+pub fn type_in(line: &[u8]) -> TypeRead
+    ensures { λ r. ⌜ r ≡ typeOf (take 4 (drop 5 (now (line .entry)))) ⌝ }
+{
+    type_of(part(line, 5, 4))
+}
+
+// A type that is none of the six stands in no record that is handed out.
+pub fn type_or(t: TypeRead) -> TransactionType
+    ensures { λ r. ⌜ r ≡ typeOr t ⌝ }
+{
+    match t {
+        TypeRead::Of(y) => y,
+        TypeRead::NoType => TransactionType::Creditor,
+    }
+}
+
+fn type_group(t: TransactionType) -> Group
+    ensures { λ r. ⌜ r ≡ typeGroup t ⌝ }
+{
+    match t {
+        TransactionType::UncheckedCreditor => Group::Payments,
+        TransactionType::UncheckedSalary => Group::Payments,
+        TransactionType::Creditor => Group::Payments,
+        TransactionType::Salary => Group::Payments,
+        TransactionType::Debit => Group::Debits,
+        TransactionType::UncheckedDebit => Group::Debits,
+    }
+}
+
+// A type whose item must have a name record.
+pub fn is_unchecked(t: TransactionType) -> bool
+    ensures { λ r. ⌜ r ≡ isUnchecked t ⌝ }
+{
+    match t {
+        TransactionType::UncheckedCreditor => true,
+        TransactionType::UncheckedSalary => true,
+        TransactionType::Creditor => false,
+        TransactionType::Salary => false,
+        TransactionType::Debit => false,
+        TransactionType::UncheckedDebit => true,
+    }
+}
+
+fn type_fault(t: TypeRead, group: Group) -> u8
+    ensures { λ r. ⌜ r ≡ firstNo (typeTests group t) ⌝ }
+{
+    match t {
+        TypeRead::Of(y) => if is_same_group(group, type_group(y)) {
+            0
+        } else {
+            format::DIFFERS
+        },
+        TypeRead::NoType => format::WRONG_VALUE,
+    }
+}
+
+// A type of the group; t is what its characters stand for.
+pub fn type_no(line: &[u8], t: TypeRead, group: Group) -> u8
+    ensures { λ r. ⌜ r ≡ fieldNo (filled 4) (typeTests group t) (take 4 (drop 5 (now (line .entry)))) ⌝ }
+{
+    let f = filled_no(line, 5, 4);
+    if f != 0 {
+        return f;
+    }
+    type_fault(t, group)
+}
