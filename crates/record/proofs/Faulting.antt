@@ -166,7 +166,6 @@ module _ {x : Fault} (b : Batch) (next : ℕ) where
 
 pub ruleset maxima = (too-many, too-much, much-in-all, within-maxima, needs)
 
-
 -- ## A batch header
 
 -- the rows of both variants

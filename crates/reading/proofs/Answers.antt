@@ -1,0 +1,166 @@
+-- The line reader and the whole file over the lines judged. Assumes nothing.
+use Prim.Native.Nat.{ℕ, zero, suc, _+_, _≤_, _<_}
+use mathlib.Core.Path.{_≡_, refl, sym, ap, ap₂, _∙_, subst}
+use mathlib.Core.List.{List, [], _∷_}
+use mathlib.Core.Bool.{Bool, true, false}
+use native.Mathlib.Omega.{arith}
+use borrow.Author.Tests.{eq-eqb, ne-eqb}
+use borrow.Author.Needs.{needs}
+use lib.ListN.{length, take, drop, length-take}
+use lib.Seq.{drop-nil}
+use lib.Dec.{T, eqb}
+use mir.Val.{Fits}
+use mir.Syntax.{w64}
+use Rattle.machine.specs.Lists.{pick}
+use Rattle.format.specs.declared.Kind.{Kind}
+use Rattle.format.specs.declared.Code.{Code}
+use Rattle.format.specs.declared.Code.the-variants.{Of, Unknown}
+use Rattle.record.specs.Faults.{fieldsOf, faultOf}
+use Rattle.record.specs.Read.{recordFor, textFor, valuesOf}
+use Rattle.record.specs.declared.Record.{Record}
+use Rattle.reading.specs.State.{startState, isKept, within}
+use Rattle.reading.specs.Step.{refused, taken, nextFor, judgedFirst, refusalLine, nothingRead, readBy, endedAt, stepAt}
+use Rattle.reading.specs.Check.{linesFrom, linesOf, answerOf, answerBy, checkOf}
+use Rattle.reading.specs.declared.State.{State}
+use Rattle.reading.specs.declared.Judged.{Judged}
+use Rattle.reading.specs.declared.LineRead.{LineRead}
+use Rattle.reading.specs.declared.Answer.{Answer}
+use Rattle.record.proofs.Reading.{valued}
+use Rattle.reading.proofs.Limits.{within-line, not-kept}
+use Rattle.reading.proofs.Running.{skip, first-52}
+use Rattle.reading.proofs.Verdicts.{First, beyond, halted, moved, first}
+
+-- ## The lines of a first line's bytes
+
+drop-take : (n : ℕ) (xs : List ℕ) → drop n (take n xs) ≡ []
+drop-take zero xs = refl
+drop-take (suc n) [] = refl
+drop-take (suc n) (x ∷ xs) = drop-take n xs
+
+either-way : (b : Bool) (j : Judged) → pick b j j ≡ j
+unfolding pick
+either-way true j = refl
+either-way false j = refl
+
+lines-first : (s : State) (xs : List ℕ) → 0 < length xs → linesOf s (take 52 xs) ≡ judgedFirst s xs
+unfolding linesOf linesFrom
+lines-first s [] h = absurd (omega arith)
+lines-first s (x ∷ xs) h =
+    let j = judgedFirst s (x ∷ take 51 xs) in
+    ap (λ (i : Judged). pick (eqb (j .number) 0) i j) (skip j 51 (take 51 xs) ∙ ap (linesFrom j 0) (drop-take 51 xs))
+    ∙ either-way (eqb (j .number) 0) j ∙ first-52 s (x ∷ xs)
+
+step-first : (s : State) (xs : List ℕ) → 0 < length xs → stepAt s xs ≡ readBy (take 50 xs) (judgedFirst s xs .code) (judgedFirst s xs)
+unfolding stepAt
+step-first s [] h = absurd (omega arith)
+step-first s (x ∷ xs) h = refl
+
+pub step-none : {x : LineRead} (s : State) (xs : List ℕ) → length xs ≡ 0 → x ≡ endedAt s → x ≡ stepAt s xs
+unfolding stepAt
+step-none s [] h e = e
+step-none s (x ∷ xs) h e = absurd (omega arith)
+
+-- of no bytes, and from a state that is not kept
+pub lines-none : {x : Judged} (s : State) (xs : List ℕ) → length xs ≡ 0 → x ≡ refused s 0 0 → x ≡ linesOf s xs
+unfolding linesOf linesFrom
+lines-none s [] h e = e
+lines-none s (x ∷ xs) h e = absurd (omega arith)
+
+pub lines-beyond : {x : Judged} {b : Bool} (s : State) (xs : List ℕ) → b ≡ isKept s → b ≡ false → (length xs ≡ 0 → ⊥) → x ≡ refused s 0 24 → x ≡ linesOf s xs
+unfolding linesOf linesFrom judgedFirst pick
+lines-beyond s [] e f h k = absurd (h refl)
+lines-beyond s (x ∷ xs) e f h k = rw (not-kept s e f) k
+
+-- the line that a refusal names
+name-small : (n l : ℕ) → ((n ≡ 24 → ⊥) → l ≤ 6999369995) → refusalLine n l ≤ 6999369996
+unfolding pick
+name-small n l f = by (eqb n 24) refl
+  where
+    by : (q : Bool) → eqb n 24 ≡ q → pick q 0 (l + 1) ≤ 6999369996
+    by true h = omega arith
+    by false h = let k = f (λ e. subst T (sym (eq-eqb n 24 e) ∙ h) tt) in omega arith
+
+pub named-fits : (n l : ℕ) → refusalLine n l ≤ 6999369996 → (n ≡ 24 → ⊥) → Fits w64 (l + 1)
+unfolding pick
+named-fits n l f h = let k : l + 1 ≤ 6999369996 = rw (ne-eqb n 24 h) at f in omega arith
+
+-- what the judging says of a line that is taken, and of one that is refused
+code-fault : {s : State} {xs : List ℕ} {j : Judged} → First s xs j → (k : Kind) → j .code ≡ Of k → faultOf (s .said) (s .group) (s .batch) k (take 50 xs) .number ≡ 0
+code-fault (beyond w) k e = absurd (let z : _≡_ {A = ℕ} 0 1 = cc in omega arith)
+code-fault (halted w c n z) k e = absurd (let z : _≡_ {A = ℕ} 0 1 = cc in omega arith)
+code-fault {s} {xs} (moved w m c a f) k e = let q : m ≡ k = cc in subst (λ i. faultOf (s .said) (s .group) (s .batch) i (take 50 xs) .number ≡ 0) q f
+
+refused-line : {s : State} {xs : List ℕ} {j : Judged} → First s xs j → j .code ≡ Unknown → (j .number ≡ 24 → ⊥) → j .next .line ≤ 6999369995
+refused-line {s} (beyond w) e n = absurd (n refl)
+refused-line {s} (halted w c n z) e m = within-line s w
+refused-line (moved w k c a f) e n = absurd (let z : _≡_ {A = ℕ} 0 1 = cc in omega arith)
+
+module _ {p : List ℕ} {j : Judged} (s : State) (xs : List ℕ) (h : length xs ≡ 0 → ⊥) (d : p ≡ take 52 xs) (e : j ≡ linesOf s p) where
+  some : 0 < length xs
+  some = omega arith
+
+  is-first : j ≡ judgedFirst s xs
+  is-first = e ∙ ap (linesOf s) d ∙ lines-first s xs some
+
+  by-first : First s xs j
+  by-first = subst (First s xs) (sym is-first) (first s xs)
+
+  pub line-named : {c : Code} → c ≡ j .code → c ≡ Unknown → refusalLine (j .number) (j .next .line) ≤ 6999369996
+  line-named u q = name-small (j .number) (j .next .line) (refused-line by-first (sym u ∙ q))
+
+  step-is : stepAt s xs ≡ readBy (take 50 xs) (j .code) j
+  step-is = step-first s xs some ∙ ap (λ (i : Judged). readBy (take 50 xs) (i .code) i) (sym is-first)
+
+  pub step-refused : {x : LineRead} {n : ℕ} {c : Code} → c ≡ j .code → c ≡ Unknown → n ≡ refusalLine (j .number) (j .next .line) → x ≡ nothingRead (j .next) (j .number) n (j .column) → x ≡ stepAt s xs
+  step-refused u q l k = k ∙ ap (λ m. nothingRead (j .next) (j .number) m (j .column)) l ∙ sym (step-is ∙ ap (λ i. readBy (take 50 xs) i j) (sym u ∙ q))
+
+  pub step-taken : {r : Record} {t l : List ℕ} {c : Code} (k : Kind) → c ≡ j .code → c ≡ Of k → l ≡ take 50 xs → r ≡ recordFor k (valuesOf k l) → t ≡ textFor k (valuesOf k l)
+      → _≡_ {A = LineRead} (record { answer = j .number; line = j .next .line; column = j .column; next = j .next; read = r; text = t }) (stepAt s xs)
+  step-taken {r} {t} k u q v f g =
+      let w = ap (valuesOf k) v ∙ valued (s .said) (s .group) (s .batch) k (take 50 xs) (code-fault by-first k (sym u ∙ q)) in
+      let a : r ≡ recordFor k (fieldsOf k (take 50 xs)) = f ∙ ap (recordFor k) w in
+      let b : t ≡ textFor k (fieldsOf k (take 50 xs)) = g ∙ ap (textFor k) w in
+      (λ i. record { answer = j .number; line = j .next .line; column = j .column; next = j .next; read = a i; text = b i })
+      ∙ sym (step-is ∙ ap (λ i. readBy (take 50 xs) i j) (sym u ∙ q))
+
+pub ruleset steps = (step-none, step-refused, step-taken)
+
+-- ## The whole file
+
+abbrev Named : Judged → Type 0
+Named j = (j .number ≡ 0 → ⊥) → (j .number ≡ 24 → ⊥) → j .next .line ≤ 6999369995
+
+first-named : {s : State} {xs : List ℕ} {j : Judged} → First s xs j → Named j
+first-named (beyond w) z n = absurd (n refl)
+first-named {s} (halted w c m y) z n = within-line s w
+first-named (moved w k c a f) z n = absurd (z refl)
+
+either-named : (q : Bool) (i j : Judged) → Named i → Named j → Named (pick q i j)
+unfolding pick
+either-named true i j a b = a
+either-named false i j a b = b
+
+lines-named : (j : Judged) (k : ℕ) (xs : List ℕ) → Named j → Named (linesFrom j k xs)
+unfolding linesFrom
+lines-named j k [] p = p
+lines-named j (suc k) (x ∷ xs) p = lines-named j k xs p
+lines-named j zero (x ∷ xs) p =
+    let i = judgedFirst (j .next) (x ∷ xs) in
+    let n = first-named (first (j .next) (x ∷ xs)) in
+    either-named (eqb (i .number) 0) (linesFrom i 51 xs) i (lines-named i 51 xs n) n
+
+module _ {j : Judged} {s : State} (file : List ℕ) (b : s ≡ startState) (e : j ≡ linesOf s file) where
+  is-run : j ≡ linesOf startState file
+  is-run = e ∙ ap (λ u. linesOf u file) b
+
+  pub file-named : (j .number ≡ 0 → ⊥) → refusalLine (j .number) (j .next .line) ≤ 6999369996
+  unfolding linesOf
+  file-named z = name-small (j .number) (j .next .line) (subst Named (sym is-run) (lines-named (refused startState 0 0) 0 file (λ z n. absurd (z refl))) z)
+
+  pub file-stop : {l : ℕ} → (j .number ≡ 0 → ⊥) → l ≡ refusalLine (j .number) (j .next .line) → _≡_ {A = Answer} (record { number = j .number; line = l; column = j .column }) (checkOf file)
+  unfolding checkOf pick
+  file-stop z h = ap (λ n. record { number = j .number; line = n; column = j .column }) h ∙ sym (ap answerBy (sym is-run) ∙ rw (ne-eqb _ _ z))
+
+  pub file-end : {r : LineRead} → j .number ≡ 0 → r ≡ endedAt (j .next) → answerOf r ≡ checkOf file
+  unfolding checkOf pick
+  file-end z h = ap answerOf h ∙ sym (ap answerBy (sym is-run) ∙ rw (eq-eqb _ _ z))

@@ -1,0 +1,211 @@
+-- The judging of a line from what calls answered, and what it keeps. Assumes nothing.
+use Prim.Native.Nat.{ℕ, zero, suc, _+_, _%_, _≤_, _<_, zero-le}
+use mathlib.Core.Path.{_≡_, refl, sym, ap, ap₂, _∙_, subst}
+use mathlib.Core.List.{List, [], _∷_}
+use mathlib.Core.Bool.{Bool, true, false, not, _&&_, _||_}
+use native.Mathlib.Omega.{arith}
+use borrow.Author.Tests.{eq-eqb, ne-eqb, ltb-true, eqb-true}
+use lib.ListN.{length, getD, take}
+use lib.Dec.{T, eqb, ltb}
+use Rattle.machine.specs.Lists.{pick}
+use Rattle.format.specs.Records.{amount}
+use Rattle.format.specs.declared.Kind.{Kind}
+use Rattle.format.specs.declared.Kind.the-variants.{FileHeader, BatchHeaderB, BatchHeaderC, FixedDescription, OrderingParty, Transaction, NamePayer, CityPayer, PaymentReference, Description, NameBeneficiary, CityBeneficiary, BatchTrailer, FileTrailer}
+use Rattle.format.specs.declared.Group.{Group}
+use Rattle.format.specs.declared.Code.{Code}
+use Rattle.format.specs.declared.Code.the-variants.{Of, Unknown}
+use Rattle.record.specs.Kinds.{codeOf}
+use Rattle.record.specs.Faults.{faultAt, fieldsOf, maximaFault, faultOf}
+use Rattle.record.specs.Read.{transactionFor, transactionOf, valuesOf}
+use Rattle.record.specs.declared.Batch.{Batch}
+use Rattle.record.specs.declared.Fault.{Fault}
+use Rattle.record.specs.declared.TransactionRead.{TransactionRead}
+use Rattle.record.proofs.Reading.{valued}
+use Rattle.record.proofs.Faulting.{transaction-read, transaction-refused, transaction-taken, transaction-bounded, maxima-kept, header-bounded, identified-bounded}
+use Rattle.reading.specs.State.{Kept, within}
+use Rattle.reading.specs.Bounds.{Bounded}
+use Rattle.reading.specs.Order.{isTransaction, isStage, mayFix, mayText, mayDescribe, roomFor, allowed, allowedBy}
+use Rattle.reading.specs.Step.{nextFor, paid, refused, taken, judgedBy, judgedAs, judgedKind, judgedCode, judgedLine, isWhole, isDone, judgedFirst}
+use Rattle.reading.specs.declared.Stage.the-variants.{Opened}
+use Rattle.reading.specs.declared.State.{State}
+use Rattle.reading.specs.declared.Judged.{Judged}
+use Rattle.reading.proofs.Verdicts.{First, beyond, halted, moved, first}
+
+-- ## Any kind
+
+module _ {f : Fault} (s : State) (k : Kind) (line : List ℕ) (e : f ≡ faultOf (s .said) (s .group) (s .batch) k line) where
+  pub as-refused : {x : Judged} → (f .number ≡ 0 → ⊥) → x ≡ refused s (f .column) (f .number) → x ≡ judgedAs s k line
+  unfolding judgedAs pick
+  as-refused z h = h ∙ sym (ap (judgedBy s k line) (sym e) ∙ rw (ne-eqb _ _ z))
+
+  pub as-taken : {u : State} → f .number ≡ 0 → u ≡ nextFor s k (valuesOf k line) → taken k u ≡ judgedAs s k line
+  unfolding judgedAs pick
+  as-taken z h =
+      let v = valued (s .said) (s .group) (s .batch) k line (ap (λ (g : Fault). g .number) (sym e) ∙ z) in
+      ap (taken k) (h ∙ ap (nextFor s k) v) ∙ sym (ap (judgedBy s k line) (sym e) ∙ rw (eq-eqb _ _ z))
+
+-- ## A transaction
+
+module _ {r : TransactionRead} (s : State) (line : List ℕ) (e : r ≡ transactionOf (s .group) (s .batch .account) line) where
+  pub pay-refused : {x : Judged} → (r .number ≡ 0 → ⊥) → x ≡ refused s (r .column) (r .number) → x ≡ judgedAs s Transaction line
+  pay-refused z h = as-refused s Transaction line (sym (transaction-refused (s .group) (s .batch) line e (s .said) z)) z h
+
+  module _ {f : Fault} (z : r .number ≡ 0) (m : f ≡ maximaFault (s .batch) (r .read .amount)) where
+    is-fault : f ≡ faultOf (s .said) (s .group) (s .batch) Transaction line
+    is-fault = m ∙ sym (transaction-taken (s .group) (s .batch) line e (s .said) z)
+
+    pub pay-above : {x : Judged} → (f .number ≡ 0 → ⊥) → x ≡ refused s (f .column) (f .number) → x ≡ judgedAs s Transaction line
+    pay-above y h = as-refused s Transaction line is-fault y h
+
+    pub pay-taken : {u : State} → f .number ≡ 0 → u ≡ paid s (r .read) → taken Transaction u ≡ judgedAs s Transaction line
+    unfolding judgedAs pick
+    pay-taken y h = ap (taken Transaction) (h ∙ ap (λ t. paid s t) (transaction-read (s .group) (s .batch) line e z)) ∙ sym (ap (judgedBy s Transaction line) (sym is-fault) ∙ rw (eq-eqb _ _ y))
+
+  pub pay-bounded : Bounded (r .read)
+  pay-bounded = let b = transaction-bounded (s .group) (s .batch .account) line e in record { amount = omega (arith, b .amount); payer = omega (arith, b .payer); beneficiary = omega (arith, b .beneficiary) }
+
+pub ruleset pays = (pay-refused, pay-above, pay-taken)
+
+-- ## Kinds and codes
+
+is-transaction : (k : Kind) → isTransaction k ≡ true → k ≡ Transaction
+is-transaction FileHeader h = absurd (subst T (sym h) tt)
+is-transaction BatchHeaderB h = absurd (subst T (sym h) tt)
+is-transaction BatchHeaderC h = absurd (subst T (sym h) tt)
+is-transaction FixedDescription h = absurd (subst T (sym h) tt)
+is-transaction OrderingParty h = absurd (subst T (sym h) tt)
+is-transaction Transaction h = refl
+is-transaction NamePayer h = absurd (subst T (sym h) tt)
+is-transaction CityPayer h = absurd (subst T (sym h) tt)
+is-transaction PaymentReference h = absurd (subst T (sym h) tt)
+is-transaction Description h = absurd (subst T (sym h) tt)
+is-transaction NameBeneficiary h = absurd (subst T (sym h) tt)
+is-transaction CityBeneficiary h = absurd (subst T (sym h) tt)
+is-transaction BatchTrailer h = absurd (subst T (sym h) tt)
+is-transaction FileTrailer h = absurd (subst T (sym h) tt)
+
+module _ {b : Bool} (s : State) (k : Kind) (line : List ℕ) (e : b ≡ allowed s k) where
+  pub kind-pays : {x : Judged} {t : Bool} → b ≡ true → t ≡ isTransaction k → t ≡ true → x ≡ judgedAs s Transaction line → x ≡ judgedKind s k line
+  unfolding judgedKind pick
+  kind-pays h i j w = rw (← e, h) (w ∙ ap (λ m. judgedAs s m line) (sym (is-transaction k (sym i ∙ j))))
+
+  pub kind-reads : {x : Judged} → b ≡ true → x ≡ judgedAs s k line → x ≡ judgedKind s k line
+  unfolding judgedKind pick
+  kind-reads h w = rw (← e, h) w
+
+  pub kind-stops : {x : Judged} → b ≡ false → x ≡ refused s 1 3 → x ≡ judgedKind s k line
+  unfolding judgedKind pick
+  kind-stops h w = rw (← e, h) w
+
+pub ruleset kinds = (kind-pays, kind-reads, kind-stops)
+
+pub code-known : {x : Judged} {c : Code} {k : Kind} (s : State) (line : List ℕ) → c ≡ codeOf (take 5 line) → c ≡ Of k → x ≡ judgedKind s k line → x ≡ judgedLine s line
+unfolding judgedLine
+code-known s line e f h = h ∙ ap (judgedCode s line) (sym f ∙ e)
+
+pub code-unknown : {x : Judged} {c : Code} (s : State) (line : List ℕ) → c ≡ codeOf (take 5 line) → c ≡ Unknown → x ≡ refused s 1 2 → x ≡ judgedLine s line
+unfolding judgedLine
+code-unknown s line e f h = h ∙ ap (judgedCode s line) (sym f ∙ e)
+
+pub ruleset codes = (code-known, code-unknown)
+
+-- ## The first line
+
+module _ (s : State) (xs : List ℕ) where
+  pub first-beyond : {x : Judged} → within s ≡ false → x ≡ refused s 0 24 → x ≡ judgedFirst s xs
+  unfolding judgedFirst pick
+  first-beyond w h = rw w h
+
+  module _ (w : within s ≡ true) {d : Bool} (e : d ≡ isDone s) where
+    pub first-done : {x : Judged} → d ≡ true → x ≡ refused s 0 11 → x ≡ judgedFirst s xs
+    unfolding judgedFirst pick
+    first-done t h = rw (w, ← e, t) h
+
+    module _ (t : d ≡ false) {b : Bool} (i : b ≡ isWhole xs) where
+      pub first-line : {x : Judged} {p : List ℕ} → b ≡ true → p ≡ take 50 xs → x ≡ judgedLine s p → x ≡ judgedFirst s xs
+      unfolding judgedFirst pick
+      first-line u q h = rw (w, ← e, t, ← i, u) (h ∙ ap (judgedLine s) q)
+
+      pub first-broken : {x : Judged} → b ≡ false → x ≡ refused s 0 1 → x ≡ judgedFirst s xs
+      unfolding judgedFirst pick
+      first-broken u h = rw (w, ← e, t, ← i, u) h
+
+pub ruleset firsts = (first-beyond, first-done, first-line, first-broken)
+
+-- ## What is kept from line to line
+
+and-second : (a b : Bool) → (a && b) ≡ true → b ≡ true
+and-second true b h = h
+and-second false b h = absurd (subst T (sym h) tt)
+
+fix-room : (s : State) → allowed s FixedDescription ≡ true → s .batch .fixed < 4
+unfolding allowed mayFix
+fix-room s a = ltb-true (s .batch .fixed) 4 (and-second (isStage (s .stage) Opened) _ a)
+
+text-room : (s : State) → allowed s Description ≡ true → s .item .descriptions < 4
+unfolding allowed mayDescribe
+text-room s a = by (s .item .reference) (ltb-true (s .item .descriptions) (roomFor (s .item .reference)) (and-second (mayText (s .stage) (s .group) (s .item .name)) _ a))
+  where
+    by : (r : Bool) → s .item .descriptions < roomFor r → s .item .descriptions < 4
+    by true h = omega arith
+    by false h = omega arith
+
+eqb-zero : (n : ℕ) → eqb n 0 ≡ false → n ≡ 0 → ⊥
+eqb-zero n h e = subst T (sym (eq-eqb n 0 e) ∙ h) tt
+
+abbrev Roomy : Batch → ℕ → Type 0
+Roomy b n = (b .items < 100000) × (b .total + n ≤ 4537802160901)
+
+item-room : (said : Bool) (g : Group) (b : Batch) (line : List ℕ) → faultOf said g b Transaction line .number ≡ 0 → Roomy b (transactionFor (fieldsOf Transaction line) .amount)
+item-room said g b line z = by (transactionOf g (b .account) line) refl (eqb (transactionOf g (b .account) line .number) 0) refl
+  where
+    by : (r : TransactionRead) → r ≡ transactionOf g (b .account) line → (q : Bool) → eqb (r .number) 0 ≡ q → Roomy b (transactionFor (fieldsOf Transaction line) .amount)
+    by r e true h =
+        let y = eqb-true (r .number) 0 h in
+        let m = ap (λ (f : Fault). f .number) (sym (transaction-taken g b line e said y)) ∙ z in
+        subst (λ t. Roomy b (t .amount)) (transaction-read g b line e y) (maxima-kept b (r .read .amount) m)
+    by r e false h = absurd (eqb-zero (r .number) h (ap (λ (f : Fault). f .number) (sym (transaction-refused g b line e said (eqb-zero (r .number) h))) ∙ z))
+
+same-kept : {s u : State} → u .batch ≡ s .batch → u .item .descriptions ≡ s .item .descriptions → Kept s → Kept u
+same-kept b d k =
+    record {
+      items = rw b (k .items);
+      total = rw b (k .total);
+      accounts = rw b (k .accounts);
+      sequence = rw b (k .sequence);
+      fixed = rw b (k .fixed);
+      descriptions = rw d (k .descriptions);
+    }
+
+kept-next : (s : State) (k : Kind) (line : List ℕ) → allowed s k ≡ true → faultOf (s .said) (s .group) (s .batch) k line .number ≡ 0 → Kept s → Kept (nextFor s k (fieldsOf k line))
+kept-next s FileHeader line a f k = same-kept {s = s} refl refl k
+kept-next s BatchHeaderB line a f k =
+    record { items = zero-le; total = zero-le; accounts = zero-le; sequence = header-bounded (s .said) (s .group) (s .batch) line f; fixed = zero-le; descriptions = zero-le }
+kept-next s BatchHeaderC line a f k =
+    record { items = zero-le; total = zero-le; accounts = zero-le; sequence = identified-bounded (s .said) (s .group) (s .batch) line f; fixed = zero-le; descriptions = zero-le }
+kept-next s FixedDescription line a f k =
+    let r = fix-room s a in
+    record { items = k .items; total = k .total; accounts = k .accounts; sequence = k .sequence; fixed = omega arith; descriptions = k .descriptions }
+kept-next s OrderingParty line a f k = same-kept {s = s} refl refl k
+kept-next s Transaction line a f k =
+    let r = item-room (s .said) (s .group) (s .batch) line f in
+    record { items = omega arith; total = r .1; accounts = omega arith; sequence = k .sequence; fixed = k .fixed; descriptions = zero-le }
+kept-next s NamePayer line a f k = same-kept {s = s} refl refl k
+kept-next s CityPayer line a f k = same-kept {s = s} refl refl k
+kept-next s PaymentReference line a f k = same-kept {s = s} refl refl k
+kept-next s Description line a f k =
+    let r = text-room s a in
+    record { items = k .items; total = k .total; accounts = k .accounts; sequence = k .sequence; fixed = k .fixed; descriptions = omega arith }
+kept-next s NameBeneficiary line a f k = same-kept {s = s} refl refl k
+kept-next s CityBeneficiary line a f k = same-kept {s = s} refl refl k
+kept-next s BatchTrailer line a f k =
+    record { items = zero-le; total = zero-le; accounts = zero-le; sequence = k .sequence; fixed = zero-le; descriptions = zero-le }
+kept-next s FileTrailer line a f k = same-kept {s = s} refl refl k
+
+kept-first : {s : State} {xs : List ℕ} {j : Judged} → Kept s → First s xs j → Kept (j .next)
+kept-first k (beyond w) = k
+kept-first k (halted w c n z) = k
+kept-first {s} {xs} k (moved w m c a f) = kept-next s m (take 50 xs) a f k
+
+pub kept-after : {j : Judged} (s : State) (xs : List ℕ) → j ≡ judgedFirst s xs → Kept s → Kept (j .next)
+kept-after s xs e k = subst (λ (i : Judged). Kept (i .next)) (sym e) (kept-first k (first s xs))

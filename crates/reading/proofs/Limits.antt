@@ -1,0 +1,80 @@
+-- 01's limits of a state as a test and as facts. Assumes nothing.
+use Prim.Native.Nat.{ℕ, _+_, _≤_, _<_}
+use mathlib.Core.Path.{_≡_, refl, sym, ap, _∙_, subst}
+use mathlib.Core.Bool.{Bool, true, false, not, _&&_}
+use native.Mathlib.Omega.{arith}
+use borrow.Author.Needs.{needs}
+use borrow.Author.Tests.{le-leb, lt-leb, leb-true}
+use lib.Dec.{T, leb}
+use mir.Val.{Fits}
+use mir.Syntax.{w64}
+use Rattle.format.specs.Rules.{maxItems, maxTotal, maxAccount, maxSequence}
+use Rattle.reading.specs.State.{maxLine, isKept, within, Kept}
+use Rattle.reading.specs.declared.State.{State}
+
+and-first : (a b : Bool) → (a && b) ≡ true → a ≡ true
+and-first true b h = refl
+and-first false b h = h
+
+and-second : (a b : Bool) → (a && b) ≡ true → b ≡ true
+and-second true b h = h
+and-second false b h = absurd (subst (λ (t : Bool). T (not t)) h tt)
+
+pub kept-facts : {b : Bool} (s : State) → b ≡ isKept s → b ≡ true → Kept s
+unfolding isKept
+kept-facts s e t =
+    let a = sym e ∙ t in
+    let a1 = and-second (leb (s .batch .items) maxItems) _ a in
+    let a2 = and-second (leb (s .batch .total) maxTotal) _ a1 in
+    let a3 = and-second (leb (s .batch .accounts) maxAccount) _ a2 in
+    let a4 = and-second (leb (s .batch .sequence) maxSequence) _ a3 in
+    record {
+      items = leb-true _ maxItems (and-first _ _ a);
+      total = leb-true _ maxTotal (and-first _ _ a1);
+      accounts = leb-true _ maxAccount (and-first _ _ a2);
+      sequence = leb-true _ maxSequence (and-first _ _ a3);
+      fixed = leb-true _ 4 (and-first _ _ a4);
+      descriptions = leb-true _ 4 (and-second (leb (s .batch .fixed) 4) _ a4);
+    }
+
+kept-test : (s : State) → Kept s → isKept s ≡ true
+unfolding isKept
+kept-test s k =
+    rw (
+      le-leb (s .batch .items) maxItems (k .items),
+      le-leb (s .batch .total) maxTotal (k .total),
+      le-leb (s .batch .accounts) maxAccount (k .accounts),
+      le-leb (s .batch .sequence) maxSequence (k .sequence),
+      le-leb (s .batch .fixed) 4 (k .fixed),
+      le-leb (s .item .descriptions) 4 (k .descriptions),
+    )
+
+-- with the batch and the item kept, the line number decides
+pub within-yes : (s : State) → Kept s → s .line ≤ 6999369995 → within s ≡ true
+unfolding within
+within-yes s k h = rw (le-leb (s .line) maxLine h) (kept-test s k)
+
+pub within-no : (s : State) → 6999369995 < s .line → within s ≡ false
+unfolding within
+within-no s h = rw (lt-leb (s .line) maxLine h)
+
+pub not-kept : {b : Bool} (s : State) → b ≡ isKept s → b ≡ false → within s ≡ false
+unfolding within
+not-kept s e f = rw (← e, f) (last (leb (s .line) maxLine))
+  where
+    last : (a : Bool) → (a && false) ≡ false
+    last true = refl
+    last false = refl
+
+pub within-line : (s : State) → within s ≡ true → s .line ≤ 6999369995
+unfolding within
+within-line s h = leb-true (s .line) maxLine (and-first _ _ h)
+
+pub within-of : {b x : Bool} (s : State) → b ≡ isKept s → x ≡ (leb (s .line) maxLine && b) → x ≡ within s
+unfolding within
+within-of s e h = rw (← e) h
+
+pub line-fits : {b : Bool} (s : State) → b ≡ within s → b ≡ true → Fits w64 (s .line + 1)
+line-fits s e t = omega (arith, within-line s (sym e ∙ t))
+
+pub ruleset limits = (within-yes, within-no)

@@ -1,0 +1,51 @@
+-- The state after a record, from what calls answered. Assumes nothing.
+use Prim.Native.Nat.{ℕ, _+_, _≤_}
+use mathlib.Core.Path.{_≡_, refl, sym, ap, ap₂, _∙_}
+use mathlib.Core.List.{List}
+use mathlib.Core.Bool.{Bool, true, false}
+use lib.ListN.{take, drop}
+use Rattle.format.specs.Rules.{isUnchecked}
+use Rattle.format.specs.declared.Kind.{Kind}
+use Rattle.format.specs.declared.Kind.the-variants.{BatchHeaderB, Transaction}
+use Rattle.format.specs.declared.Group.{Group}
+use Rattle.format.specs.declared.TransactionType.{TransactionType}
+use Rattle.field.specs.Leaf.{digitsOf}
+use Rattle.record.specs.Read.{transactionFor, valuesOf}
+use Rattle.record.specs.declared.Batch.{Batch}
+use Rattle.record.specs.declared.Transaction as items
+use Rattle.record.proofs.Reading.{value-small}
+use Rattle.reading.specs.Bounds.{Bounded}
+use Rattle.reading.specs.Step.{onward, openedBatch, nameIf, openedItem, afterText, texted, paid, nextFor}
+use Rattle.reading.specs.declared.Stage.{Stage}
+use Rattle.reading.specs.declared.Name.{Name}
+use Rattle.reading.specs.declared.OpenItem.{OpenItem}
+use Rattle.reading.specs.declared.State.{State}
+
+pub onward-via : {x : State} {g h : Group} {b c : Batch} {i j : OpenItem} (s : State) (p : Stage) (d : Bool) → g ≡ h → b ≡ c → i ≡ j → x ≡ onward s p g d b i → x ≡ onward s p h d c j
+onward-via s p d e f k h = h ∙ rw (e, f, k)
+
+pub texted-via : {x : State} {n : Name} (s : State) (r : Bool) (d : ℕ) → n ≡ afterText (s .item .name) → x ≡ onward s (s .stage) (s .group) (s .said) (s .batch) (record { name = n; reference = r; descriptions = d }) → x ≡ texted s r d
+texted-via s r d e h = h ∙ rw e
+
+pub opened-made : {a q : ℕ} (line : List ℕ) → a ≡ digitsOf (take 10 (drop 7 line)) .value → q ≡ digitsOf (take 4 (drop 17 line)) .value
+    → _≡_ {A = Batch} (record { account = a; sequence = q; items = 0; total = 0; accounts = 0; fixed = 0 }) (openedBatch (valuesOf BatchHeaderB line))
+opened-made line e h = rw (e, h)
+
+pub item-made : {u : Bool} {n : Name} (t : items.Transaction) → u ≡ isUnchecked (t .kind) → n ≡ nameIf u → _≡_ {A = OpenItem} (record { name = n; reference = false; descriptions = 0 }) (openedItem t)
+item-made t e h = rw (h, e)
+
+-- by the kind
+pub next-via : {x : State} {k m : Kind} (s : State) (line : List ℕ) → k ≡ m → x ≡ nextFor s m (valuesOf m line) → x ≡ nextFor s k (valuesOf k line)
+next-via s line e h = h ∙ ap (λ i. nextFor s i (valuesOf i line)) (sym e)
+
+pub paid-via : {x : State} {k : Kind} {t : items.Transaction} (s : State) (line : List ℕ) → k ≡ Transaction → t ≡ transactionFor (valuesOf Transaction line) → x ≡ paid s t → x ≡ nextFor s k (valuesOf k line)
+paid-via s line e f h = next-via s line e (h ∙ ap (λ u. paid s u) f)
+
+pub bounded : {t : items.Transaction} (line : List ℕ) → t ≡ transactionFor (valuesOf Transaction line) → Bounded t
+bounded line e =
+    rw e
+    (record {
+      amount = value-small (take 12 (drop 9 line));
+      payer = value-small (take 10 (drop 21 line));
+      beneficiary = value-small (take 10 (drop 31 line));
+    })

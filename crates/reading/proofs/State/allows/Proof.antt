@@ -1,0 +1,52 @@
+use borrow.Author.Needs.{needs}
+use Rattle.reading.proofs.Orders.{allowed-via}
+use Rattle.reading.proofs.State.allows.Statement.{statement}
+use Rattle.reading.proofs.State.allows.Tie as tie
+
+pub allows-spec : {M : Type 1} → statement M
+allows-spec =
+    tie.close
+    (tie.spec
+    (λ c. search needs)
+    (λ c κs. search needs)
+    (λ c. search needs)
+    (λ c κs. search needs)
+    (λ c. search needs)
+    (λ c κs. search needs)
+    (λ c. search needs)
+    (λ c κs. search needs)
+    (λ c. search needs)
+    (λ c κs. search needs)
+    (λ c. search needs)
+    (λ c κs. search needs)
+    (λ c. search needs)
+    (λ c κs. search needs)
+    (λ c. search needs)
+    (λ c κs. search needs)
+    (λ c. search needs)
+    (λ c κs. search needs)
+    (λ c. search needs)
+    (λ c κs. search needs)
+    (λ c. search needs)
+    (λ c κs. search needs)
+    (λ c. search needs)
+    (λ c κs. search needs)
+    (λ c. search needs)
+    (λ c κs. search needs)
+    (λ c. search needs)
+    (λ c κs. search needs)
+    (λ c. search allowed-via)
+    (λ c. search allowed-via)
+    (λ c. search allowed-via)
+    (λ c. search allowed-via)
+    (λ c. search allowed-via)
+    (λ c. search allowed-via)
+    (λ c. search allowed-via)
+    (λ c. search allowed-via)
+    (λ c. search allowed-via)
+    (λ c. search allowed-via)
+    (λ c. search allowed-via)
+    (λ c. search allowed-via)
+    (λ c. search allowed-via)
+    (λ c. search allowed-via)
+    )

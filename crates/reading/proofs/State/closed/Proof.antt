@@ -1,0 +1,14 @@
+use borrow.Author.Needs.{needs}
+use Rattle.reading.proofs.Moves.{onward-via}
+use Rattle.reading.proofs.State.closed.Statement.{statement}
+use Rattle.reading.proofs.State.closed.Tie as tie
+
+pub closed-spec : {M : Type 1} → statement M
+closed-spec =
+    tie.close
+    (tie.spec
+    (λ c κs. search needs)
+    (λ c κs. search needs)
+    (λ c κs. search needs)
+    (λ c. search onward-via depth 20 fits 10000)
+    )

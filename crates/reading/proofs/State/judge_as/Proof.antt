@@ -1,0 +1,15 @@
+use borrow.Author.Needs.{needs}
+use Rattle.reading.proofs.Judgements.{as-refused, as-taken}
+use Rattle.reading.proofs.State.judge_as.Statement.{statement}
+use Rattle.reading.proofs.State.judge_as.Tie as tie
+
+pub judge-as-spec : {M : Type 1} → statement M
+judge-as-spec =
+    tie.close
+    (tie.spec
+    (λ c κs. search needs)
+    (λ c κs. search needs)
+    (λ c. search as-refused depth 20 fits 10000)
+    (λ c κs. search needs)
+    (λ c. search as-taken depth 20 fits 10000)
+    )

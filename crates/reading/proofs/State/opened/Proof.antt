@@ -1,0 +1,15 @@
+use borrow.Author.Needs.{needs}
+use Rattle.reading.proofs.Moves.{onward-via}
+use Rattle.reading.proofs.State.opened.Statement.{statement}
+use Rattle.reading.proofs.State.opened.Tie as tie
+
+pub opened-spec : {M : Type 1} → statement M
+opened-spec =
+    tie.close
+    (tie.spec
+    (λ c κs. search needs)
+    (λ c κs. search needs)
+    (λ c κs. search needs)
+    (λ c κs. search needs)
+    (λ c. search onward-via depth 20 fits 10000)
+    )

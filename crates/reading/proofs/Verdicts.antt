@@ -1,0 +1,75 @@
+-- What the judging of a first line can come to, by cases. Assumes nothing.
+use Prim.Native.Nat.{ℕ, zero, suc, _+_, _%_, _≤_, _<_}
+use mathlib.Core.Path.{_≡_, refl, sym, ap, _∙_, subst}
+use mathlib.Core.List.{List, [], _∷_}
+use mathlib.Core.Bool.{Bool, true, false, not, _&&_}
+use native.Mathlib.Omega.{arith}
+use borrow.Author.Tests.{eqb-true, ne-eqb, eq-eqb}
+use lib.ListN.{length, take}
+use lib.Dec.{T, eqb}
+use Rattle.machine.specs.Lists.{pick}
+use Rattle.format.specs.declared.Kind.{Kind}
+use Rattle.format.specs.declared.Code.{Code}
+use Rattle.format.specs.declared.Code.the-variants.{Of, Unknown}
+use Rattle.record.specs.Kinds.{codeOf}
+use Rattle.record.specs.Faults.{fieldsOf, faultOf}
+use Rattle.record.specs.declared.Fault.{Fault}
+use Rattle.reading.specs.State.{within}
+use Rattle.reading.specs.Order.{allowed}
+use Rattle.reading.specs.Step.{nextFor, refused, taken, judgedBy, judgedAs, judgedKind, judgedCode, judgedLine, isWhole, isDone, judgedFirst}
+use Rattle.reading.specs.declared.State.{State}
+use Rattle.reading.specs.declared.Judged.{Judged}
+
+pub data Verdict (s : State) (line : List ℕ) : Judged → Type 0 where
+  stopped : (c n : ℕ) → (n ≡ 0 → ⊥) → Verdict s line (refused s c n)
+  went : (k : Kind) → codeOf (take 5 line) ≡ Of k → allowed s k ≡ true → faultOf (s .said) (s .group) (s .batch) k line .number ≡ 0 → Verdict s line (taken k (nextFor s k (fieldsOf k line)))
+
+eqb-not : (n : ℕ) → eqb n 0 ≡ false → n ≡ 0 → ⊥
+eqb-not n h e = subst T (sym (eq-eqb n 0 e) ∙ h) tt
+
+by-fault : (s : State) (line : List ℕ) (k : Kind) (f : Fault) → codeOf (take 5 line) ≡ Of k → allowed s k ≡ true → faultOf (s .said) (s .group) (s .batch) k line ≡ f → (q : Bool) → eqb (f .number) 0 ≡ q
+    → Verdict s line (pick q (taken k (nextFor s k (fieldsOf k line))) (refused s (f .column) (f .number)))
+unfolding pick
+by-fault s line k f c a e true h = went k c a (ap (λ (g : Fault). g .number) e ∙ eqb-true (f .number) 0 h)
+by-fault s line k f c a e false h = stopped (f .column) (f .number) (eqb-not (f .number) h)
+
+by-place : (s : State) (line : List ℕ) (k : Kind) → codeOf (take 5 line) ≡ Of k → (q : Bool) → allowed s k ≡ q → Verdict s line (pick q (judgedAs s k line) (refused s 1 3))
+unfolding pick judgedAs
+by-place s line k c true h = by-fault s line k (faultOf (s .said) (s .group) (s .batch) k line) c h refl (eqb (faultOf (s .said) (s .group) (s .batch) k line .number) 0) refl
+by-place s line k c false h = stopped 1 3 (λ e. omega arith)
+
+by-code : (s : State) (line : List ℕ) (c : Code) → codeOf (take 5 line) ≡ c → Verdict s line (judgedCode s line c)
+unfolding judgedKind
+by-code s line (Of k) e = by-place s line k e (allowed s k) refl
+by-code s line Unknown e = stopped 1 2 (λ z. omega arith)
+
+pub verdict : (s : State) (line : List ℕ) → Verdict s line (judgedLine s line)
+unfolding judgedLine
+verdict s line = by-code s line (codeOf (take 5 line)) refl
+
+-- ## A first line
+
+pub data First (s : State) (xs : List ℕ) : Judged → Type 0 where
+  beyond : within s ≡ false → First s xs (refused s 0 24)
+  halted : within s ≡ true → (c n : ℕ) → (n ≡ 0 → ⊥) → First s xs (refused s c n)
+  moved : within s ≡ true → (k : Kind) → codeOf (take 5 (take 50 xs)) ≡ Of k → allowed s k ≡ true → faultOf (s .said) (s .group) (s .batch) k (take 50 xs) .number ≡ 0 → First s xs (taken k (nextFor s k (fieldsOf k (take 50 xs))))
+
+of-verdict : {s : State} {xs : List ℕ} {j : Judged} → within s ≡ true → Verdict s (take 50 xs) j → First s xs j
+of-verdict w (stopped c n z) = halted w c n z
+of-verdict w (went k c a f) = moved w k c a f
+
+pub first : (s : State) (xs : List ℕ) → First s xs (judgedFirst s xs)
+unfolding judgedFirst pick
+first s xs = by (within s) refl
+  where
+    whole : within s ≡ true → (q : Bool) → First s xs (pick q (judgedLine s (take 50 xs)) (refused s 0 1))
+    whole w true = of-verdict w (verdict s (take 50 xs))
+    whole w false = halted w 0 1 (λ e. omega arith)
+
+    done : within s ≡ true → (q : Bool) → First s xs (pick q (refused s 0 11) (pick (isWhole xs) (judgedLine s (take 50 xs)) (refused s 0 1)))
+    done w true = halted w 0 11 (λ e. omega arith)
+    done w false = whole w (isWhole xs)
+
+    by : (q : Bool) → within s ≡ q → First s xs (pick q (pick (isDone s) (refused s 0 11) (pick (isWhole xs) (judgedLine s (take 50 xs)) (refused s 0 1))) (refused s 0 24))
+    by true w = done w (isDone s)
+    by false w = beyond w

@@ -1,0 +1,16 @@
+use borrow.Author.Needs.{needs}
+use Rattle.reading.proofs.Orders.{orders}
+use Rattle.reading.specs.Order.{mayName}
+use Rattle.reading.proofs.order.may_name.Statement.{statement}
+use Rattle.reading.proofs.order.may_name.Tie as tie
+
+pub may-name-spec : {M : Type 1} → statement M
+unfolding mayName
+may-name-spec =
+    tie.close
+    (tie.spec
+    (λ c κs. search needs)
+    (λ c κs. search needs)
+    (λ c κs. search needs)
+    (λ c. search orders depth 20 fits 10000)
+    )

@@ -1,0 +1,15 @@
+use borrow.Author.Needs.{needs}
+use Rattle.reading.proofs.Orders.{orders}
+use Rattle.reading.specs.Order.{mayText}
+use Rattle.reading.proofs.order.may_text.Statement.{statement}
+use Rattle.reading.proofs.order.may_text.Tie as tie
+
+pub may-text-spec : {M : Type 1} → statement M
+unfolding mayText
+may-text-spec =
+    tie.close
+    (tie.spec
+    (λ c κs. search needs)
+    (λ c κs. search needs)
+    (λ c. search orders depth 20 fits 10000)
+    )

@@ -1,0 +1,13 @@
+use borrow.Author.Needs.{needs}
+use Rattle.reading.proofs.Moves.{item-made}
+use Rattle.reading.proofs.step.opened_item.Statement.{statement}
+use Rattle.reading.proofs.step.opened_item.Tie as tie
+
+pub opened-item-spec : {M : Type 1} → statement M
+opened-item-spec =
+    tie.close
+    (tie.spec
+    (λ c κs. search needs)
+    (λ c κs. search needs)
+    (λ c. search item-made depth 20 fits 10000)
+    )

@@ -1,0 +1,190 @@
+-- What a line is answered, from every state: the answer, the state after it, and the record handed out.
+use Prim.Native.Nat.{ℕ, _+_, _%_}
+use mathlib.Core.List.{List, [], _∷_}
+use mathlib.Core.Bool.{Bool, true, false, _&&_}
+use lib.ListN.{length, getD, take}
+use lib.Dec.{leb, eqb}
+use Rattle.machine.specs.Lists.{pick}
+use Rattle.format.specs.Records.{Fields, group, orderingAccount, sequence, unidentified}
+use Rattle.format.specs.Rules.{groupOf, isUnchecked}
+use Rattle.format.specs.Language.{tenDigits}
+use Rattle.format.specs.Answers.{accepted, brokenLine, unknownRecord, misplacedRecord, endsEarly, afterTrailer, beyondLimits}
+use Rattle.format.specs.declared.Kind.{Kind}
+use Rattle.format.specs.declared.Kind.the-variants.{FileHeader, BatchHeaderB, BatchHeaderC, FixedDescription, OrderingParty, Transaction, NamePayer, CityPayer, PaymentReference, Description, NameBeneficiary, CityBeneficiary, BatchTrailer, FileTrailer}
+use Rattle.format.specs.declared.Group.{Group}
+use Rattle.format.specs.declared.Code.{Code}
+use Rattle.format.specs.declared.Code.the-variants.{Of, Unknown}
+use Rattle.record.specs.Kinds.{codeOf}
+use Rattle.record.specs.Faults.{emptyBatch, fieldsOf, faultOf}
+use Rattle.record.specs.Read.{transactionFor, recordFor, textFor, noText}
+use Rattle.record.specs.declared.Batch.{Batch}
+use Rattle.record.specs.declared.Fault.{Fault}
+use Rattle.record.specs.declared.Transaction as items
+use Rattle.record.specs.declared.Record.{Record}
+use Rattle.record.specs.declared.Record.the-variants.{Nothing}
+use Rattle.reading.specs.State.{noItem, within}
+use Rattle.reading.specs.Order.{isStage, allowed}
+use Rattle.reading.specs.declared.Stage.{Stage}
+use Rattle.reading.specs.declared.Stage.the-variants.{Headed, Opened, Ordered, Item, Closed, Done}
+use Rattle.reading.specs.declared.Name.{Name}
+use Rattle.reading.specs.declared.Name.the-variants.{Unwanted, Due, Read, Past}
+use Rattle.reading.specs.declared.OpenItem.{OpenItem}
+use Rattle.reading.specs.declared.State.{State}
+use Rattle.reading.specs.declared.Judged.{Judged}
+use Rattle.reading.specs.declared.LineRead.{LineRead}
+
+-- ## The state after a record
+
+-- one line more, and all that a record can change
+abbrev pub onward : State → Stage → Group → Bool → Batch → OpenItem → State
+onward s p g said b i = record { line = s .line + 1; stage = p; group = g; said = said; batch = b; item = i }
+
+abbrev pub moved : State → Stage → State
+moved s p = onward s p (s .group) (s .said) (s .batch) (s .item)
+
+abbrev pub openedBatch : Fields BatchHeaderB → Batch
+openedBatch x = record { account = orderingAccount x; sequence = sequence x; items = 0; total = 0; accounts = 0; fixed = 0 }
+
+abbrev pub opened : State → Fields BatchHeaderB → State
+opened s x = onward s Opened (groupOf (group x)) true (openedBatch x) noItem
+
+abbrev pub fixedOne : Batch → Batch
+fixedOne b = record { account = b .account; sequence = b .sequence; items = b .items; total = b .total; accounts = b .accounts; fixed = b .fixed + 1 }
+
+abbrev pub withFixed : State → State
+withFixed s = onward s (s .stage) (s .group) (s .said) (fixedOne (s .batch)) (s .item)
+
+-- a batch with one item more: 'sum of all payers and beneficiaries, rightmost ten digits'
+abbrev pub paidBatch : Batch → items.Transaction → Batch
+paidBatch b t =
+    record {
+      account = b .account;
+      sequence = b .sequence;
+      items = b .items + 1;
+      total = b .total + t .amount;
+      accounts = tenDigits (b .accounts + t .payer + t .beneficiary);
+      fixed = b .fixed;
+    }
+
+abbrev pub nameIf : Bool → Name
+nameIf true = Due
+nameIf false = Unwanted
+
+abbrev pub openedItem : items.Transaction → OpenItem
+openedItem t = record { name = nameIf (isUnchecked (t .kind)); reference = false; descriptions = 0 }
+
+abbrev pub paid : State → items.Transaction → State
+paid s t = onward s Item (s .group) (s .said) (paidBatch (s .batch) t) (openedItem t)
+
+abbrev pub named : State → Name → State
+named s n = onward s (s .stage) (s .group) (s .said) (s .batch) (record { name = n; reference = s .item .reference; descriptions = s .item .descriptions })
+
+-- after a reference or a description no city follows the name
+abbrev pub afterText : Name → Name
+afterText Unwanted = Unwanted
+afterText Due = Due
+afterText Read = Past
+afterText Past = Past
+
+abbrev pub texted : State → Bool → ℕ → State
+texted s r n = onward s (s .stage) (s .group) (s .said) (s .batch) (record { name = afterText (s .item .name); reference = r; descriptions = n })
+
+-- a closed batch leaves its number
+abbrev pub closedBatch : Batch → Batch
+closedBatch b = record { account = 0; sequence = b .sequence; items = 0; total = 0; accounts = 0; fixed = 0 }
+
+abbrev pub closed : State → State
+closed s = onward s Closed (s .group) true (closedBatch (s .batch)) noItem
+
+abbrev pub nextFor : State → (k : Kind) → Fields k → State
+nextFor s FileHeader x = moved s Headed
+nextFor s BatchHeaderB x = opened s x
+nextFor s BatchHeaderC x = opened s (unidentified x)
+nextFor s FixedDescription x = withFixed s
+nextFor s OrderingParty x = moved s Ordered
+nextFor s Transaction x = paid s (transactionFor x)
+nextFor s NamePayer x = named s Read
+nextFor s CityPayer x = named s Past
+nextFor s PaymentReference x = texted s true (s .item .descriptions)
+nextFor s Description x = texted s (s .item .reference) (s .item .descriptions + 1)
+nextFor s NameBeneficiary x = named s Read
+nextFor s CityBeneficiary x = named s Past
+nextFor s BatchTrailer x = closed s
+nextFor s FileTrailer x = moved s Done
+
+-- ## The judging of a line
+
+-- a refusal leaves the state
+abbrev pub refused : State → ℕ → ℕ → Judged
+refused s column number = record { number = number; column = column; code = Unknown; next = s }
+
+abbrev pub taken : Kind → State → Judged
+taken k next = record { number = accepted; column = 0; code = Of k; next = next }
+
+-- a line of a kind that may stand here: its first fault, or the state after it
+abbrev pub judgedBy : State → Kind → List ℕ → Fault → Judged
+judgedBy s k line f = pick (eqb (f .number) 0) (taken k (nextFor s k (fieldsOf k line))) (refused s (f .column) (f .number))
+
+unfoldable pub judgedAs : State → Kind → List ℕ → Judged
+judgedAs s k line = judgedBy s k line (faultOf (s .said) (s .group) (s .batch) k line)
+
+-- 2, 3, then the fields
+unfoldable pub judgedKind : State → Kind → List ℕ → Judged
+judgedKind s k line = pick (allowed s k) (judgedAs s k line) (refused s 1 misplacedRecord)
+
+abbrev pub judgedCode : State → List ℕ → Code → Judged
+judgedCode s line (Of k) = judgedKind s k line
+judgedCode s line Unknown = refused s 1 unknownRecord
+
+-- the 50 characters of a line
+unfoldable pub judgedLine : State → List ℕ → Judged
+judgedLine s line = judgedCode s line (codeOf (take 5 line))
+
+-- 50 characters, 13 and 10
+unfoldable pub isWhole : List ℕ → Bool
+isWhole xs = leb 52 (length xs) && (eqb (getD xs 50 0) 13 && eqb (getD xs 51 0) 10)
+
+abbrev pub isDone : State → Bool
+isDone s = isStage (s .stage) Done
+
+-- the first line of bytes of which there is one at least: 24, 11, 1, then the line
+unfoldable pub judgedFirst : State → List ℕ → Judged
+judgedFirst s xs =
+    pick (within s)
+    (pick (isDone s) (refused s 0 afterTrailer)
+    (pick (isWhole xs) (judgedLine s (take 50 xs))
+    (refused s 0 brokenLine)))
+    (refused s 0 beyondLimits)
+
+-- ## THE STEP: what the bytes that remain are answered
+
+-- the line that a refusal names; 24 names none
+abbrev pub refusalLine : ℕ → ℕ → ℕ
+refusalLine number line = pick (eqb number beyondLimits) 0 (line + 1)
+
+abbrev pub nothingRead : State → ℕ → ℕ → ℕ → LineRead
+nothingRead s number line column = record { answer = number; line = line; column = column; next = s; read = Nothing; text = noText }
+
+abbrev pub readBy : List ℕ → Code → Judged → LineRead
+readBy line (Of k) j =
+    record {
+      answer = j .number;
+      line = j .next .line;
+      column = j .column;
+      next = j .next;
+      read = recordFor k (fieldsOf k line);
+      text = textFor k (fieldsOf k line);
+    }
+readBy line Unknown j = nothingRead (j .next) (j .number) (refusalLine (j .number) (j .next .line)) (j .column)
+
+-- no bytes remain: 24, 10, or the end
+unfoldable pub endedAt : State → LineRead
+endedAt s =
+    pick (within s)
+    (pick (isDone s) (nothingRead s accepted (s .line) 0)
+    (nothingRead s endsEarly (s .line + 1) 0))
+    (nothingRead s beyondLimits 0 0)
+
+unfoldable pub stepAt : State → List ℕ → LineRead
+stepAt s [] = endedAt s
+stepAt s (x ∷ xs) = readBy (take 50 (x ∷ xs)) (judgedFirst s (x ∷ xs) .code) (judgedFirst s (x ∷ xs))

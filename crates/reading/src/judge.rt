@@ -1,0 +1,210 @@
+// The judging of lines. Each function that takes the state has one caller, so that the compiler puts them all into the loop of `run`; whoever judges a line calls `lines`.
+ghost use mathlib.Core.Path.{_≡_};
+ghost use mathlib.Core.Bool.{true};
+ghost use Prim.Native.Nat.{_≤_};
+ghost use lib.ListN.{take, drop};
+ghost use Rattle.format.specs.declared.Kind.the-variants.{Transaction};
+ghost use Rattle.reading.specs.State.{Kept, isKept};
+ghost use Rattle.reading.specs.Order.{isTransaction};
+ghost use Rattle.reading.specs.Step.{refused, judgedAs, judgedKind, judgedLine, isWhole, judgedFirst};
+ghost use Rattle.reading.specs.Check.{linesOf};
+use crate::Judged;
+use crate::Stage;
+use crate::State;
+use crate::order::is_stage;
+use field::bytes::part;
+use format::Code;
+use format::Kind;
+use record::Batch;
+use record::faults::fault_in;
+use record::faults::maxima_fault;
+use record::faults::transaction_in;
+use record::kinds::code_of;
+
+fn is_transaction(k: Kind) -> bool
+    ensures { λ r. ⌜ r ≡ isTransaction k ⌝ }
+{
+    match k {
+        Kind::FileHeader => false,
+        Kind::BatchHeaderB => false,
+        Kind::BatchHeaderC => false,
+        Kind::FixedDescription => false,
+        Kind::OrderingParty => false,
+        Kind::Transaction => true,
+        Kind::NamePayer => false,
+        Kind::CityPayer => false,
+        Kind::PaymentReference => false,
+        Kind::Description => false,
+        Kind::NameBeneficiary => false,
+        Kind::CityBeneficiary => false,
+        Kind::BatchTrailer => false,
+        Kind::FileTrailer => false,
+    }
+}
+
+fn is_whole(rest: &[u8]) -> bool
+    ensures { λ r. ⌜ r ≡ isWhole (now (rest .entry)) ⌝ }
+{
+    if rest.len() < 52 {
+        return false;
+    }
+    (rest[50] == 13) & (rest[51] == 10)
+}
+
+impl State {
+    pub(crate) fn refused(self, number: u8, column: u8) -> Judged
+        ensures { λ r. ⌜ r ≡ refused self column number ⌝ }
+    {
+        Judged {
+            number,
+            column,
+            code: Code::Unknown,
+            next: self,
+        }
+    }
+
+    // A transaction, whose fields are read once.
+    fn transaction(self, line: &[u8]) -> Judged
+        requires line { ⌜ self .line ≤ 6999369995 ⌝ }
+        requires kept { ⌜ Kept self ⌝ }
+        ensures { λ r. ⌜ r ≡ judgedAs self Transaction (now (line .entry)) ⌝ }
+    {
+        let group = self.group;
+        let batch = self.batch;
+        let r = transaction_in(line, group, batch.account);
+        if r.number != 0 {
+            return self.refused(r.number, r.column);
+        }
+        let t = r.read;
+        let f = maxima_fault(batch, t.amount);
+        if f.number != 0 {
+            return self.refused(f.number, f.column);
+        }
+        let next = self.paid(t);
+        Judged {
+            number: 0,
+            column: 0,
+            code: Code::Of(Kind::Transaction),
+            next,
+        }
+    }
+
+    fn judge_as(self, k: Kind, line: &[u8]) -> Judged
+        requires line { ⌜ self .line ≤ 6999369995 ⌝ }
+        requires kept { ⌜ Kept self ⌝ }
+        ensures { λ r. ⌜ r ≡ judgedAs self k (now (line .entry)) ⌝ }
+    {
+        let group = self.group;
+        let batch = self.batch;
+        let f = fault_in(k, line, self.said, group, batch);
+        if f.number != 0 {
+            return self.refused(f.number, f.column);
+        }
+        let next = self.after(k, line);
+        Judged {
+            number: 0,
+            column: 0,
+            code: Code::Of(k),
+            next,
+        }
+    }
+
+    fn judge_kind(self, k: Kind, line: &[u8]) -> Judged
+        requires line { ⌜ self .line ≤ 6999369995 ⌝ }
+        requires kept { ⌜ Kept self ⌝ }
+        ensures { λ r. ⌜ r ≡ judgedKind self k (now (line .entry)) ⌝ }
+    {
+        if self.allows(k) {
+            if is_transaction(k) {
+                return self.transaction(line);
+            }
+            self.judge_as(k, line)
+        } else {
+            self.refused(format::MISPLACED_RECORD, 1)
+        }
+    }
+
+    // The 50 characters of a line.
+    fn judge(self, line: &[u8]) -> Judged
+        requires line { ⌜ self .line ≤ 6999369995 ⌝ }
+        requires kept { ⌜ Kept self ⌝ }
+        ensures { λ r. ⌜ r ≡ judgedLine self (now (line .entry)) ⌝ }
+    {
+        let code = code_of(line);
+        match code {
+            Code::Of(k) => self.judge_kind(k, line),
+            Code::Unknown => self.refused(format::UNKNOWN_RECORD, 1),
+        }
+    }
+
+    // The first line of what remains, of which there is a byte at least.
+    fn judge_first(self, rest: &[u8]) -> Judged
+        requires { ⌜ Kept self ⌝ }
+        ensures { λ r. ⌜ r ≡ judgedFirst self (now (rest .entry)) ⌝ }
+    {
+        let stage = self.stage;
+        if 6999369995 < self.line {
+            return self.refused(format::BEYOND_LIMITS, 0);
+        }
+        if is_stage(stage, Stage::Done) {
+            return self.refused(format::AFTER_TRAILER, 0);
+        }
+        if is_whole(rest) {
+            self.judge(part(rest, 0, 50))
+        } else {
+            self.refused(format::BROKEN_LINE, 0)
+        }
+    }
+}
+
+impl Judged {
+    // The line after one that was accepted.
+    fn then(self, rest: &[u8]) -> Judged
+        requires { ⌜ Kept (self .next) ⌝ }
+        ensures { λ r. ⌜ r ≡ judgedFirst (self .next) (now (rest .entry)) ⌝ }
+    {
+        let state = self.next;
+        state.judge_first(rest)
+    }
+}
+
+// The limits of a state but for its line number.
+pub(crate) fn is_kept(s: State) -> bool
+    ensures { λ r. ⌜ r ≡ isKept s ⌝ }
+{
+    let b = s.batch;
+    let i = s.item;
+    (b.items <= Batch::MAX_ITEMS)
+        & ((b.total <= Batch::MAX_TOTAL)
+            & ((b.accounts <= 9999999999)
+                & ((b.sequence <= 9999) & ((b.fixed <= 4) & (i.descriptions <= 4)))))
+}
+
+fn run(start: State, bytes: &[u8]) -> Judged
+    requires { ⌜ Kept start ⌝ }
+    ensures { λ r. ⌜ r ≡ linesOf start (now (bytes .entry)) ⌝ }
+{
+    let mut last = start.refused(0, 0);
+    let mut at = 0;
+    while at < bytes.len() {
+        last = last.then(part(bytes, at, 52));
+        if last.number != 0 {
+            return last;
+        }
+        at += 52;
+    }
+    last
+}
+
+// All lines of some bytes, up to the first that is refused.
+pub fn lines(start: State, bytes: &[u8]) -> Judged
+    ensures { λ r. ⌜ r ≡ linesOf start (now (bytes .entry)) ⌝ }
+{
+    if is_kept(start) {
+        return run(start, bytes);
+    }
+    if bytes.len() == 0 {
+        return start.refused(0, 0);
+    }
+    start.refused(format::BEYOND_LIMITS, 0)
+}

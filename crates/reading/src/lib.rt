@@ -1,0 +1,105 @@
+// The reading state, the judging of a line, and the line reader.
+ghost use mathlib.Core.Path.{_≡_};
+ghost use Rattle.reading.specs.State.{noItem, startState};
+use format::Code;
+use format::Group;
+use record::Batch;
+use record::Record;
+
+mod file;
+mod judge;
+mod line;
+mod order;
+mod step;
+
+pub use file::check;
+pub use judge::lines;
+
+// How far a file is read: before its header, after it, in a batch before and after its ordering party, in an item, after a batch, after the file trailer.
+pub enum Stage {
+    Start,
+    Headed,
+    Opened,
+    Ordered,
+    Item,
+    Closed,
+    Done,
+}
+
+// The name record of the open item: none wanted, one due, just read (a city may follow), or past.
+pub enum Name {
+    Unwanted,
+    Due,
+    Read,
+    Past,
+}
+
+// The open item: its name record, whether it has a reference, and its descriptions so far.
+pub struct OpenItem {
+    pub name: Name,
+    pub reference: bool,
+    pub descriptions: u64,
+}
+
+// A file so far: the lines read, the stage, the group and whether it is said yet, the batch, and the open item.
+pub struct State {
+    pub line: u64,
+    pub stage: Stage,
+    pub group: Group,
+    pub said: bool,
+    pub batch: Batch,
+    pub item: OpenItem,
+}
+
+// What the judging of a line comes to: the answer's number and column, the line's code where it is accepted, and the state after it.
+pub struct Judged {
+    pub number: u8,
+    pub column: u8,
+    pub code: Code,
+    pub next: State,
+}
+
+// What a line is answered, the state after it, and the record read with its text.
+pub struct LineRead {
+    pub answer: u8,
+    pub line: u64,
+    pub column: u8,
+    pub next: State,
+    pub read: Record,
+    pub text: [u8; 35],
+}
+
+// What a file is answered.
+pub struct Answer {
+    pub number: u8,
+    pub line: u64,
+    pub column: u8,
+}
+
+fn no_item() -> OpenItem
+    ensures { λ r. ⌜ r ≡ noItem ⌝ }
+{
+    OpenItem {
+        name: Name::Unwanted,
+        reference: false,
+        descriptions: 0,
+    }
+}
+
+impl State {
+    // Before the first line.
+    pub fn start() -> State
+        ensures { λ r. ⌜ r ≡ startState ⌝ }
+    {
+        let batch = Batch::empty();
+        let item = no_item();
+        State {
+            line: 0,
+            stage: Stage::Start,
+            group: Group::Payments,
+            said: false,
+            batch,
+            item,
+        }
+    }
+}

@@ -1,0 +1,90 @@
+// The line reader.
+ghost use mathlib.Core.Path.{_≡_};
+ghost use Prim.Native.Nat.{_≤_};
+ghost use Rattle.reading.specs.State.{within};
+ghost use Rattle.reading.specs.Step.{refusalLine, nothingRead, endedAt, stepAt};
+use crate::LineRead;
+use crate::Stage;
+use crate::State;
+use crate::judge::is_kept;
+use crate::judge::lines;
+use crate::order::is_stage;
+use field::bytes::part;
+use format::Code;
+use record::Record;
+use record::read::record_in;
+use record::read::text_in;
+
+fn is_within(s: State) -> bool
+    ensures { λ r. ⌜ r ≡ within s ⌝ }
+{
+    (s.line <= 6999369995) & is_kept(s)
+}
+
+// The line that a refusal names: 24 names none.
+pub(crate) fn refusal_line(number: u8, line: u64) -> u64
+    requires { ⌜ refusalLine number line ≤ 6999369996 ⌝ }
+    ensures { λ r. ⌜ r ≡ refusalLine number line ⌝ }
+{
+    if number == format::BEYOND_LIMITS {
+        return 0;
+    }
+    line + 1
+}
+
+impl State {
+    fn nothing_read(self, answer: u8, line: u64, column: u8) -> LineRead
+        ensures { λ r. ⌜ r ≡ nothingRead self answer line column ⌝ }
+    {
+        LineRead {
+            answer,
+            line,
+            column,
+            next: self,
+            read: Record::Nothing,
+            text: [32u8; 35],
+        }
+    }
+
+    // No bytes remain.
+    pub(crate) fn ended(self) -> LineRead
+        ensures { λ r. ⌜ r ≡ endedAt self ⌝ }
+    {
+        let stage = self.stage;
+        let line = self.line;
+        if is_within(self) {
+            if is_stage(stage, Stage::Done) {
+                return self.nothing_read(0, line, 0);
+            }
+            return self.nothing_read(format::ENDS_EARLY, line + 1, 0);
+        }
+        self.nothing_read(format::BEYOND_LIMITS, 0, 0)
+    }
+
+    // The next line of what remains of a file: its answer, line and column, the state after it, and the record read.
+    pub fn line(self, rest: &[u8]) -> LineRead
+        ensures { λ r. ⌜ r ≡ stepAt self (now (rest .entry)) ⌝ }
+    {
+        if rest.len() == 0 {
+            return self.ended();
+        }
+        let line = part(rest, 0, 50);
+        let j = lines(self, part(rest, 0, 52));
+        let next = j.next;
+        let code = j.code;
+        match code {
+            Code::Of(k) => LineRead {
+                answer: j.number,
+                line: next.line,
+                column: j.column,
+                next,
+                read: record_in(k, line),
+                text: text_in(k, line),
+            },
+            Code::Unknown => {
+                let named = refusal_line(j.number, next.line);
+                next.nothing_read(j.number, named, j.column)
+            }
+        }
+    }
+}

@@ -1,0 +1,242 @@
+// The state after a record.
+ghost use mathlib.Core.Path.{_≡_};
+ghost use Prim.Native.Nat.{_≤_};
+ghost use Rattle.record.specs.Read.{valuesOf};
+ghost use Rattle.format.specs.declared.Kind.the-variants.{BatchHeaderB};
+ghost use Rattle.reading.specs.State.{Kept};
+ghost use Rattle.reading.specs.Step.{onward, moved, openedBatch, opened, fixedOne, withFixed, paidBatch, nameIf, openedItem, paid, named, afterText, texted, closedBatch, closed, nextFor};
+ghost use Rattle.reading.specs.Bounds.{Roomy, Bounded};
+use crate::Name;
+use crate::OpenItem;
+use crate::Stage;
+use crate::State;
+use crate::no_item;
+use format::Group;
+use format::Kind;
+use record::Batch;
+use record::Transaction;
+use record::read::transaction_at;
+use record::read::value_at;
+use record::types::group_in;
+use record::types::is_unchecked;
+
+fn opened_batch(line: &[u8]) -> Batch
+    ensures { λ r. ⌜ r ≡ openedBatch (valuesOf BatchHeaderB (now (line .entry))) ⌝ }
+{
+    Batch {
+        account: value_at(line, 7, 10),
+        sequence: value_at(line, 17, 4),
+        items: 0,
+        total: 0,
+        accounts: 0,
+        fixed: 0,
+    }
+}
+
+fn fixed_one(b: Batch) -> Batch
+    requires { ⌜ b .fixed ≤ 4 ⌝ }
+    ensures { λ r. ⌜ r ≡ fixedOne b ⌝ }
+{
+    Batch {
+        account: b.account,
+        sequence: b.sequence,
+        items: b.items,
+        total: b.total,
+        accounts: b.accounts,
+        fixed: b.fixed + 1,
+    }
+}
+
+fn paid_batch(b: Batch, t: Transaction) -> Batch
+    requires batch { ⌜ Roomy b ⌝ }
+    requires transaction { ⌜ Bounded t ⌝ }
+    ensures { λ r. ⌜ r ≡ paidBatch b t ⌝ }
+{
+    Batch {
+        account: b.account,
+        sequence: b.sequence,
+        items: b.items + 1,
+        total: b.total + t.amount,
+        accounts: (b.accounts + t.payer + t.beneficiary) % 10000000000,
+        fixed: b.fixed,
+    }
+}
+
+fn closed_batch(b: Batch) -> Batch
+    ensures { λ r. ⌜ r ≡ closedBatch b ⌝ }
+{
+    Batch {
+        account: 0,
+        sequence: b.sequence,
+        items: 0,
+        total: 0,
+        accounts: 0,
+        fixed: 0,
+    }
+}
+
+fn name_if(due: bool) -> Name
+    ensures { λ r. ⌜ r ≡ nameIf due ⌝ }
+{
+    if due { Name::Due } else { Name::Unwanted }
+}
+
+fn opened_item(t: Transaction) -> OpenItem
+    ensures { λ r. ⌜ r ≡ openedItem t ⌝ }
+{
+    let kind = t.kind;
+    let name = name_if(is_unchecked(kind));
+    OpenItem {
+        name,
+        reference: false,
+        descriptions: 0,
+    }
+}
+
+fn after_text(n: Name) -> Name
+    ensures { λ r. ⌜ r ≡ afterText n ⌝ }
+{
+    match n {
+        Name::Unwanted => Name::Unwanted,
+        Name::Due => Name::Due,
+        Name::Read => Name::Past,
+        Name::Past => Name::Past,
+    }
+}
+
+impl State {
+    // One line more: all that a record can change.
+    fn onward(self, stage: Stage, group: Group, said: bool, batch: Batch, item: OpenItem) -> State
+        requires { ⌜ self .line ≤ 6999369995 ⌝ }
+        ensures { λ r. ⌜ r ≡ onward self stage group said batch item ⌝ }
+    {
+        State {
+            line: self.line + 1,
+            stage,
+            group,
+            said,
+            batch,
+            item,
+        }
+    }
+
+    fn moved(self, stage: Stage) -> State
+        requires { ⌜ self .line ≤ 6999369995 ⌝ }
+        ensures { λ r. ⌜ r ≡ moved self stage ⌝ }
+    {
+        let group = self.group;
+        let batch = self.batch;
+        let item = self.item;
+        self.onward(stage, group, self.said, batch, item)
+    }
+
+    fn opened(self, line: &[u8]) -> State
+        requires { ⌜ self .line ≤ 6999369995 ⌝ }
+        ensures { λ r. ⌜ r ≡ opened self (valuesOf BatchHeaderB (now (line .entry))) ⌝ }
+    {
+        let batch = opened_batch(line);
+        let group = group_in(line);
+        let item = no_item();
+        self.onward(Stage::Opened, group, true, batch, item)
+    }
+
+    fn with_fixed(self) -> State
+        requires line { ⌜ self .line ≤ 6999369995 ⌝ }
+        requires kept { ⌜ Kept self ⌝ }
+        ensures { λ r. ⌜ r ≡ withFixed self ⌝ }
+    {
+        let stage = self.stage;
+        let group = self.group;
+        let b = self.batch;
+        let item = self.item;
+        let batch = fixed_one(b);
+        self.onward(stage, group, self.said, batch, item)
+    }
+
+    pub(crate) fn paid(self, t: Transaction) -> State
+        requires line { ⌜ self .line ≤ 6999369995 ⌝ }
+        requires kept { ⌜ Kept self ⌝ }
+        requires transaction { ⌜ Bounded t ⌝ }
+        ensures { λ r. ⌜ r ≡ paid self t ⌝ }
+    {
+        let group = self.group;
+        let b = self.batch;
+        let batch = paid_batch(b, t);
+        let item = opened_item(t);
+        self.onward(Stage::Item, group, self.said, batch, item)
+    }
+
+    fn with_item(self, item: OpenItem) -> State
+        requires { ⌜ self .line ≤ 6999369995 ⌝ }
+        ensures { λ r. ⌜ r ≡ onward self (self .stage) (self .group) (self .said) (self .batch) item ⌝ }
+    {
+        let stage = self.stage;
+        let group = self.group;
+        let batch = self.batch;
+        self.onward(stage, group, self.said, batch, item)
+    }
+
+    fn named(self, name: Name) -> State
+        requires { ⌜ self .line ≤ 6999369995 ⌝ }
+        ensures { λ r. ⌜ r ≡ named self name ⌝ }
+    {
+        let i = self.item;
+        let item = OpenItem {
+            name,
+            reference: i.reference,
+            descriptions: i.descriptions,
+        };
+        self.with_item(item)
+    }
+
+    fn texted(self, reference: bool, descriptions: u64) -> State
+        requires { ⌜ self .line ≤ 6999369995 ⌝ }
+        ensures { λ r. ⌜ r ≡ texted self reference descriptions ⌝ }
+    {
+        let i = self.item;
+        let n = i.name;
+        let name = after_text(n);
+        let item = OpenItem {
+            name,
+            reference,
+            descriptions,
+        };
+        self.with_item(item)
+    }
+
+    fn closed(self) -> State
+        requires { ⌜ self .line ≤ 6999369995 ⌝ }
+        ensures { λ r. ⌜ r ≡ closed self ⌝ }
+    {
+        let group = self.group;
+        let b = self.batch;
+        let batch = closed_batch(b);
+        let item = no_item();
+        self.onward(Stage::Closed, group, true, batch, item)
+    }
+
+    // The state after a line of that kind.
+    pub(crate) fn after(self, k: Kind, line: &[u8]) -> State
+        requires line { ⌜ self .line ≤ 6999369995 ⌝ }
+        requires kept { ⌜ Kept self ⌝ }
+        ensures { λ r. ⌜ r ≡ nextFor self k (valuesOf k (now (line .entry))) ⌝ }
+    {
+        let i = self.item;
+        match k {
+            Kind::FileHeader => self.moved(Stage::Headed),
+            Kind::BatchHeaderB => self.opened(line),
+            Kind::BatchHeaderC => self.opened(line),
+            Kind::FixedDescription => self.with_fixed(),
+            Kind::OrderingParty => self.moved(Stage::Ordered),
+            Kind::Transaction => self.paid(transaction_at(line)),
+            Kind::NamePayer => self.named(Name::Read),
+            Kind::CityPayer => self.named(Name::Past),
+            Kind::PaymentReference => self.texted(true, i.descriptions),
+            Kind::Description => self.texted(i.reference, i.descriptions + 1),
+            Kind::NameBeneficiary => self.named(Name::Read),
+            Kind::CityBeneficiary => self.named(Name::Past),
+            Kind::BatchTrailer => self.closed(),
+            Kind::FileTrailer => self.moved(Stage::Done),
+        }
+    }
+}
