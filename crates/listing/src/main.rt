@@ -1,0 +1,185 @@
+// Prints the listing of the file on standard input: its header, each closed batch, and the answer.
+mod page;
+
+use field::bytes::part;
+use format::Group;
+use libc::STDIN_FILENO;
+use libc::STDOUT_FILENO;
+use page::put_line;
+use page::put_number;
+use reading::State;
+use record::Record;
+
+// The listing so far: the answer to the last line, the state after it, how much is gathered, and whether there may be more to read.
+struct Listed {
+    answer: u8,
+    line: u64,
+    column: u8,
+    state: State,
+    at: usize,
+    more: bool,
+}
+
+fn put_header(
+    page: &mut [u8],
+    at: usize,
+    created: u64,
+    identification: u64,
+    duplicate: u64,
+    sender: &[u8],
+) -> usize {
+    let a = put_line(page, at, b"file=", b"CLIEOP03");
+    let b = put_number(page, a, b"created=", created, 6);
+    let c = put_line(page, b, b"sender=", sender);
+    let d = put_number(page, c, b"identification=", identification, 4);
+    put_number(page, d, b"duplicate=", duplicate, 1)
+}
+
+fn put_group(page: &mut [u8], at: usize, group: Group) -> usize {
+    match group {
+        Group::Payments => put_line(page, at, b"group=", b"00"),
+        Group::Debits => put_line(page, at, b"group=", b"10"),
+    }
+}
+
+// The batch that a state is in.
+fn put_batch(page: &mut [u8], at: usize, state: State) -> usize {
+    let batch = state.batch;
+    let group = state.group;
+    let a = put_number(page, at, b"batch=", batch.sequence, 4);
+    let b = put_group(page, a, group);
+    let c = put_number(page, b, b"account=", batch.account, 10);
+    let d = put_number(page, c, b"items=", batch.items, 1);
+    let e = put_number(page, d, b"amount=", batch.total, 1);
+    put_number(page, e, b"accounts=", batch.accounts, 10)
+}
+
+fn put_answer(page: &mut [u8], at: usize, answer: u8, line: u64, column: u8) -> usize {
+    let a = put_number(page, at, b"answer=", wide(answer), 1);
+    let b = put_number(page, a, b"line=", line, 1);
+    put_number(page, b, b"column=", wide(column), 1)
+}
+
+fn wide(x: u8) -> u64 {
+    x as u64
+}
+
+// What a record that was read adds; state is the one before it.
+fn put_record(page: &mut [u8], at: usize, state: State, read: Record, sender: &[u8]) -> usize {
+    match read {
+        Record::FileHeader {
+            created,
+            identification,
+            duplicate,
+        } => put_header(page, at, created, identification, duplicate, sender),
+        Record::BatchTrailer {
+            total: _,
+            accounts: _,
+            items: _,
+        } => put_batch(page, at, state),
+        _ => at,
+    }
+}
+
+// Writes what is gathered where the next record might not fit.
+fn make_room(page: &[u8], at: usize) -> usize {
+    if at <= page.len() {
+        if page.len() - at < 512 {
+            io::write_all(STDOUT_FILENO, part(page, 0, at));
+            return 0;
+        }
+    }
+    at
+}
+
+// One line of what the buffer holds.
+fn list_line(before: Listed, rest: &[u8], page: &mut [u8]) -> Listed {
+    let state = before.state;
+    let room = make_room(page, before.at);
+    let r = state.line(rest);
+    let read = r.read;
+    let text = r.text;
+    let next = r.next;
+    let at = put_record(page, room, state, read, part(&text, 0, 5));
+    Listed {
+        answer: r.answer,
+        line: r.line,
+        column: r.column,
+        state: next,
+        at,
+        more: true,
+    }
+}
+
+// The lines of a buffer, up to the first that is refused.
+fn list_lines(before: Listed, bytes: &[u8], page: &mut [u8]) -> Listed {
+    let mut listed = before;
+    let mut i = 0;
+    while i < bytes.len() {
+        listed = list_line(listed, part(bytes, i, 52), page);
+        if listed.answer != 0 {
+            return listed;
+        }
+        i += 52;
+    }
+    listed
+}
+
+// A buffer of 1,260 lines. It comes short at the end of the input only.
+fn list_some(before: Listed, page: &mut [u8]) -> Listed {
+    let mut buffer = [0u8; 65520];
+    let n = io::read_full(STDIN_FILENO, &mut buffer);
+    let mut listed = list_lines(before, &buffer[..n], page);
+    listed.more = (n == 65520) & (listed.answer == 0);
+    listed
+}
+
+// The rest of the input. A proved loop has to end, so this one counts its turns down from a number that no run uses up.
+fn list_rest(before: Listed, page: &mut [u8]) -> Listed {
+    let mut listed = before;
+    let mut turns = u64::MAX;
+    while 0 < turns {
+        if listed.more {
+            listed = list_some(listed, page);
+        } else {
+            return listed;
+        }
+        turns -= 1;
+    }
+    listed
+}
+
+// Where no line was refused, the end of the file is answered.
+fn ended(listed: Listed, page: &mut [u8]) -> Listed {
+    if listed.answer == 0 {
+        list_line(listed, b"", page)
+    } else {
+        listed
+    }
+}
+
+fn put_end(listed: Listed, page: &mut [u8]) -> usize {
+    let room = make_room(page, listed.at);
+    put_answer(page, room, listed.answer, listed.line, listed.column)
+}
+
+fn list_file(page: &mut [u8]) {
+    let state = State::start();
+    let listed = Listed {
+        answer: 0,
+        line: 0,
+        column: 0,
+        state,
+        at: 0,
+        more: true,
+    };
+    let read = list_rest(listed, page);
+    let end = ended(read, page);
+    let at = put_end(end, page);
+    io::write_all(STDOUT_FILENO, part(page, 0, at));
+}
+
+fn main() {
+    let mut page = [0u8; 8192];
+    list_file(&mut page);
+}
