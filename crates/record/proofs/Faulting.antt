@@ -92,8 +92,6 @@ module _ {p : List ℕ} {d : Bool} (l : List ℕ) (i : p ≡ take 4 (drop 24 l))
         let a : all isDigit (take 2 (drop 24 l)) ≡ true = ap (all isDigit) (sym f) ∙ digits-front 2 (take 4 (drop 24 l)) are-digits in
         ap (λ m. eqb m (created / 10000)) (ap valueOf f ∙ sym (digits-value (take 2 (drop 24 l)) n a j)) ∙ k
 
-pub ruleset identifications = (form-stop, form-on, pick-yes, pick-no, no-digits, no-counter, counted, of-day, eq-eqb, ne-eqb)
-
 -- the row, with the creation date as it stands
 pub identification-row : {r : Numeric} {n : ℕ} (l t : List ℕ) → r ≡ numericOf dateTests l → r .number ≡ 0
     → n ≡ fieldNo (filled 4) (test (isIdentification t) wrongValue ∷ test (isOfDay (r .value) t) differs ∷ []) t
@@ -125,8 +123,6 @@ is-next before n h e = eq-eqb n (suc before) (omega arith)
 pub is-not-next : (before n : ℕ) → 1 ≤ n → (n - 1 ≡ before → ⊥) → eqb n (suc before) ≡ false
 is-not-next before n h e = ne-eqb n (suc before) (λ k. e (omega arith))
 
-pub ruleset sequences = (sequence-row, no-stop, no-on, pick-yes, pick-no, first-holds, else-is, is-next, is-not-next, at-least, eq-eqb, ne-eqb)
-
 abbrev nameCodeTests : Group → ℕ → List Test
 nameCodeTests g v = test (inRange 1 2 v) wrongValue ∷ test (isNameCodeIn g v) differs ∷ []
 
@@ -141,8 +137,6 @@ name-payments n e = rw e
 pub name-debits : {g : Group} {v : Bool} (n : ℕ) → g ≡ Debits → eqb n 1 ≡ v → isNameCodeIn g n ≡ v
 unfolding isNameCodeIn
 name-debits n e h = rw e h
-
-pub ruleset name-codes = (name-code-row, no-stop, no-on, pick-yes, pick-no, name-payments, name-debits, eq-eqb, ne-eqb)
 
 -- ## A batch's maxima
 

@@ -12,10 +12,16 @@ use Rattle.format.specs.declared.TransactionType.{TransactionType}
 use Rattle.format.specs.declared.TypeRead.{TypeRead}
 use Rattle.format.specs.declared.TypeRead.the-variants.{Of, NoType}
 use Rattle.field.specs.Rows.{firstNo}
-use Rattle.field.proofs.Forms.{form-stop, form-on}
 use Rattle.record.specs.Faults.{groupSaid}
 
+-- an arm of a function by cases
+pub of-case : {A B : Type 0} (f : A → B) {t u : A} {x : B} → t ≡ u → x ≡ f u → x ≡ f t
+of-case f e h = rw e h
+
 -- ## Groups
+
+pub same-case : {a b g h : Group} {x : Bool} → a ≡ g → b ≡ h → x ≡ sameGroup g h → x ≡ sameGroup a b
+same-case e f h = rw (e, f) h
 
 pub text-via : {g h : Group} {x : Bool} (l : List ℕ) → g ≡ h → x ≡ same l (groupText h) → x ≡ same l (groupText g)
 text-via l e p = rw e p
@@ -49,8 +55,6 @@ module _ {p : List ℕ} {a : Bool} (l : List ℕ) (d : p ≡ l) (e : a ≡ isGro
         pub group-other : b ≡ false → 7 ≡ groupNo said g l
         unfolding pick
         group-other u = rw (is-group h, k, is-text u)
-
-pub ruleset groups = (form-stop, form-on, group-wrong, group-free, group-right, group-other)
 
 -- ## Types
 

@@ -1,5 +1,8 @@
 use borrow.Author.Needs.{needs}
-use Rattle.record.proofs.Faulting.{sequences}
+use borrow.Author.Tests.{eq-eqb, ne-eqb}
+use Rattle.field.proofs.Picks.{pick-yes, pick-no, first-holds, else-is}
+use Rattle.field.proofs.Numerics.{no-stop, no-on}
+use Rattle.record.proofs.Faulting.{sequence-row, is-next, is-not-next, at-least}
 use Rattle.record.proofs.faults.sequence_no.Statement.{statement}
 use Rattle.record.proofs.faults.sequence_no.Tie as tie
 
@@ -8,9 +11,9 @@ sequence-no-spec =
     tie.close
     (tie.spec
     (λ c κs. search needs)  -- ranged-requires
-    (λ c. search sequences depth 20 fits 10000)  -- returns
-    (λ c. search sequences depth 20 fits 10000)  -- returns-2
-    (λ c. search sequences depth 20 fits 10000)  -- sub-if3
-    (λ c. search sequences depth 20 fits 10000)  -- returns-3
-    (λ c. search sequences depth 20 fits 10000)  -- returns-4
+    (λ c. search (sequence-row, no-stop) depth 20 fits 10000)  -- returns
+    (λ c. search (sequence-row, no-on, pick-yes, first-holds, eq-eqb) depth 20 fits 10000)  -- returns-2
+    (λ c. search at-least depth 20 fits 10000)  -- sub-if3
+    (λ c. search (sequence-row, no-on, pick-yes, else-is, is-next, at-least, ne-eqb) depth 20 fits 10000)  -- returns-3
+    (λ c. search (sequence-row, no-on, pick-no, else-is, is-not-next, at-least, ne-eqb) depth 20 fits 10000)  -- returns-4
     )

@@ -1,6 +1,6 @@
 use borrow.Author.Needs.{needs}
 use Rattle.record.specs.Kinds.{debitCode}
-use Rattle.field.proofs.Picks.{picks}
+use Rattle.field.proofs.Picks.{pick-yes, pick-no, told}
 use Rattle.record.proofs.kinds.debit_kind.Statement.{statement}
 use Rattle.record.proofs.kinds.debit_kind.Tie as tie
 
@@ -11,10 +11,10 @@ debit-kind-spec =
     (tie.spec
     (λ c. search needs)  -- slice-aggregate-is-same
     (λ c κs. search needs)  -- is-same-requires
-    (λ c. search picks depth 20 fits 10000)  -- returns
+    (λ c. search (pick-yes, pick-no, told) depth 20 fits 10000)  -- returns
     (λ c. search needs)  -- slice-aggregate-is-same-2
     (λ c κs. search needs)  -- is-same-requires-2
-    (λ c. search picks depth 20 fits 10000)  -- returns-2
+    (λ c. search (pick-yes, pick-no, told) depth 20 fits 10000)  -- returns-2
     (λ c κs. search needs)  -- batch-kind-requires
-    (λ c. search picks depth 20 fits 10000)  -- returns-3
+    (λ c. search (pick-yes, pick-no, told) depth 20 fits 10000)  -- returns-3
     )

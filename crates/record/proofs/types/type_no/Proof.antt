@@ -1,5 +1,5 @@
 use borrow.Author.Needs.{needs}
-use Rattle.field.proofs.Forms.{forms}
+use Rattle.field.proofs.Forms.{form-stop, form-on}
 use Rattle.record.proofs.types.type_no.Statement.{statement}
 use Rattle.record.proofs.types.type_no.Tie as tie
 
@@ -8,7 +8,7 @@ type-no-spec =
     tie.close
     (tie.spec
     (λ c κs. search needs)  -- filled-no-requires
-    (λ c. search forms depth 20 fits 10000)  -- returns
+    (λ c. search form-stop)  -- returns
     (λ c κs. search needs)  -- type-fault-requires
-    (λ c. search forms depth 20 fits 10000)  -- returns-2
+    (λ c. search form-on)  -- returns-2
     )
