@@ -1,0 +1,169 @@
+-- A line's first fault by its rows is the first check that fails in the language's reader: proved once for every table of fields. Assumes nothing.
+use Prim.Native.Nat.{ℕ, zero, suc, _+_, _-_, _≤_}
+use mathlib.Core.Path.{_≡_, refl, sym, ap, _∙_, subst}
+use mathlib.Core.List.{List, [], _∷_}
+use mathlib.Core.Bool.{Bool, true, false, _&&_}
+use native.Mathlib.Omega.{arith}
+use borrow.Author.Tests.{ne-eqb}
+use lib.ListN.{take, drop}
+use lib.Seq.{take-take, take-nil, drop-drop}
+use lib.Dec.{T, leb, leb→le}
+use Rattle.machine.specs.Lists.{pick}
+use Rattle.machine.proofs.Base.{refuse, and-l, and-r}
+use Rattle.format.specs.Fields.{Field, width, widths, wellFormed, readField, readFields}
+use Rattle.format.specs.Records.{layout, Fields, unidentified, sequence}
+use Rattle.format.specs.Tests.{Test, test, Check, check, Tests, batchHeaderTests}
+use Rattle.format.specs.declared.Kind.{Kind}
+use Rattle.format.specs.declared.Kind.the-variants.{FileHeader, BatchHeaderB, BatchHeaderC, FixedDescription, OrderingParty, Transaction, NamePayer, CityPayer, PaymentReference, Description, NameBeneficiary, CityBeneficiary, BatchTrailer, FileTrailer}
+use Rattle.format.specs.declared.Group.{Group}
+use Rattle.format.proofs.Checks.{judge, Pass, Hold, Holds, fieldChecks, lineChecks}
+use Rattle.format.proofs.Reader.{State, begin}
+use Rattle.field.specs.Rows.{Row, row, cut, firstNo, fieldNo, rowsAt, checkRows, fieldsAt, firstOr}
+use Rattle.record.specs.declared.Fault.{Fault}
+use Rattle.record.specs.declared.Batch.{Batch}
+use Rattle.record.specs.Faults.{faultAt, noFault, firstFault, fieldsOf, testsFor, maximaFor, faultOf, groupSaid}
+
+-- ## Fields by their columns
+
+pub drop-take : (w r : ℕ) (l : List ℕ) → drop w (take (w + r) l) ≡ take r (drop w l)
+drop-take zero r l = let e : zero + r ≡ r = omega arith in ap (λ n. take n l) e
+drop-take (suc w) r [] = ap (drop (suc w)) (take-nil (suc w + r)) ∙ sym (take-nil r)
+drop-take (suc w) r (x ∷ l) = let e : suc w + r ≡ suc (w + r) = omega arith in ap (λ n. drop (suc w) (take n (x ∷ l))) e ∙ drop-take w r l
+
+first-field : (c w r : ℕ) (xs : List ℕ) → take w (cut c (w + r) xs) ≡ cut c w xs
+first-field c w r xs = take-take w (w + r) (drop (c - 1) xs) (omega arith)
+
+other-fields : (c w r : ℕ) (xs : List ℕ) → 1 ≤ c → drop w (cut c (w + r) xs) ≡ cut (c + w) r xs
+other-fields c w r xs h =
+    let e : (c - 1) + w ≡ (c + w) - 1 = omega arith in
+    drop-take w r (drop (c - 1) xs) ∙ ap (take r) (drop-drop w (c - 1) xs ∙ ap (λ n. drop n xs) e)
+
+pub fields-read : (c : ℕ) (fs : List Field) (xs : List ℕ) → 1 ≤ c → readFields fs (cut c (widths fs) xs) ≡ fieldsAt c fs xs
+fields-read c [] xs h = refl
+fields-read c (f ∷ fs) xs h =
+    let e = first-field c (width f) (widths fs) xs in
+    let q = ap (readFields fs) (other-fields c (width f) (widths fs) xs h) ∙ fields-read (c + width f) fs xs (omega arith) in
+    λ i. (readField f (e i), q i)
+
+-- ## Every test has an answer
+
+abbrev answered : List Test → Bool
+answered [] = true
+answered (test b n ∷ ts) = leb 1 n && answered ts
+
+abbrev allAnswered : (fs : List Field) → Tests fs → Bool
+allAnswered [] t = true
+allAnswered (f ∷ fs) t = answered (t .0) && allAnswered fs (t .1)
+
+abbrev checksAnswered : List Check → Bool
+checksAnswered [] = true
+checksAnswered (check b n c ∷ cs) = leb 1 n && checksAnswered cs
+
+header-answered : (said : Bool) (g : Group) (before : ℕ) (x : Fields BatchHeaderB) → T (allAnswered (layout BatchHeaderB) (batchHeaderTests (groupSaid said g) before x))
+header-answered true g before x = tt
+header-answered false g before x = tt
+
+tests-answered : (said : Bool) (g : Group) (b : Batch) (k : Kind) (x : Fields k) → T (allAnswered (layout k) (testsFor said g b k x))
+tests-answered said g b FileHeader x = tt
+tests-answered said g b BatchHeaderB x = header-answered said g (b .sequence) x
+tests-answered said g b BatchHeaderC x = header-answered said g (b .sequence) (unidentified x)
+tests-answered said g b FixedDescription x = tt
+tests-answered said g b OrderingParty x = tt
+tests-answered said g b Transaction x = tt
+tests-answered said g b NamePayer x = tt
+tests-answered said g b CityPayer x = tt
+tests-answered said g b PaymentReference x = tt
+tests-answered said g b Description x = tt
+tests-answered said g b NameBeneficiary x = tt
+tests-answered said g b CityBeneficiary x = tt
+tests-answered said g b BatchTrailer x = tt
+tests-answered said g b FileTrailer x = tt
+
+maxima-answered : (b : Batch) (k : Kind) (x : Fields k) → T (checksAnswered (maximaFor b k x))
+maxima-answered b FileHeader x = tt
+maxima-answered b BatchHeaderB x = tt
+maxima-answered b BatchHeaderC x = tt
+maxima-answered b FixedDescription x = tt
+maxima-answered b OrderingParty x = tt
+maxima-answered b Transaction x = tt
+maxima-answered b NamePayer x = tt
+maxima-answered b CityPayer x = tt
+maxima-answered b PaymentReference x = tt
+maxima-answered b Description x = tt
+maxima-answered b NameBeneficiary x = tt
+maxima-answered b CityBeneficiary x = tt
+maxima-answered b BatchTrailer x = tt
+maxima-answered b FileTrailer x = tt
+
+-- ## Rows and checks
+
+module _ (after : State) where
+  -- what both come to: all passed, or the same refusal
+  pub data Same (cs : List Check) : Fault → Type 0 where
+    passed : Pass cs → Same cs noFault
+    stopped : (c n : ℕ) → 1 ≤ n → judge cs after ≡ refuse n c → Same cs (faultAt c n)
+
+  onward : {cs : List Check} {f : Fault} (n c : ℕ) → Same cs f → Same (check true n c ∷ cs) f
+  onward n c (passed p) = passed (tt, p)
+  onward n c (stopped d m z e) = stopped d m z e
+
+  refuses : (cs : List Check) (rows : List Row) (n c : ℕ) → T (leb 1 n) → Same (check false n c ∷ cs) (firstOr faultAt (row c n ∷ rows) noFault)
+  unfolding firstOr pick
+  refuses cs rows n c t =
+      let h = leb→le 1 n t in
+      subst (λ b. Same (check false n c ∷ cs) (pick b (firstOr faultAt rows noFault) (faultAt c n))) (sym (ne-eqb n 0 (omega arith))) (stopped c n h refl)
+
+  same-tests : (c : ℕ) (ts : List Test) (cs : List Check) (rows : List Row) → T (answered ts) → Same cs (firstOr faultAt rows noFault) → Same (fieldChecks c ts cs) (firstOr faultAt (row c (firstNo ts) ∷ rows) noFault)
+  unfolding firstOr pick
+  same-tests c [] cs rows t j = j
+  same-tests c (test true n ∷ ts) cs rows t j = onward n c (same-tests c ts cs rows (and-r (leb 1 n) (answered ts) t) j)
+  same-tests c (test false n ∷ ts) cs rows t j = refuses (fieldChecks c ts cs) rows n c (and-l (leb 1 n) (answered ts) t)
+
+  same-field : (q : Bool) (c : ℕ) (ts : List Test) (cs : List Check) (rows : List Row) → T (answered ts) → Same cs (firstOr faultAt rows noFault)
+      → Same (check q 4 c ∷ fieldChecks c ts cs) (firstOr faultAt (row c (pick q (firstNo ts) 4) ∷ rows) noFault)
+  unfolding pick
+  same-field true c ts cs rows t j = onward 4 c (same-tests c ts cs rows t j)
+  same-field false c ts cs rows t j = refuses (fieldChecks c ts cs) rows 4 c tt
+
+  same-fields : (c : ℕ) (fs : List Field) (t : Tests fs) (xs : List ℕ) (cs : List Check) (rows : List Row) → 1 ≤ c → T (allAnswered fs t) → Same cs (firstOr faultAt rows noFault)
+      → Same (lineChecks c fs t (cut c (widths fs) xs) cs) (firstOr faultAt (rowsAt c fs t xs rows) noFault)
+  unfolding fieldNo
+  same-fields c [] t xs cs rows h z j = j
+  same-fields c (f ∷ fs) t xs cs rows h z j =
+      let w = width f in
+      let r = widths fs in
+      let m = same-fields (c + w) fs (t .1) xs cs rows (omega arith) (and-r (answered (t .0)) (allAnswered fs (t .1)) z) j in
+      subst (λ l. Same (check (wellFormed f l) 4 c ∷ fieldChecks c (t .0) (lineChecks (c + w) fs (t .1) (drop w (cut c (w + r) xs)) cs)) (firstOr faultAt (rowsAt c (f ∷ fs) t xs rows) noFault)) (sym (first-field c w r xs))
+      (subst (λ l. Same (check (wellFormed f (cut c w xs)) 4 c ∷ fieldChecks c (t .0) (lineChecks (c + w) fs (t .1) l cs)) (firstOr faultAt (rowsAt c (f ∷ fs) t xs rows) noFault)) (sym (other-fields c w r xs h))
+      (same-field (wellFormed f (cut c w xs)) c (t .0) (lineChecks (c + w) fs (t .1) (cut (c + w) r xs) cs) (rowsAt (c + w) fs (t .1) xs rows) (and-l (answered (t .0)) (allAnswered fs (t .1)) z) m))
+
+  same-checks : (cs : List Check) → T (checksAnswered cs) → Same cs (firstOr faultAt (checkRows cs) noFault)
+  unfolding firstOr pick
+  same-checks [] z = passed tt
+  same-checks (check true n c ∷ cs) z = onward n c (same-checks cs (and-r (leb 1 n) (checksAnswered cs) z))
+  same-checks (check false n c ∷ cs) z = refuses cs (checkRows cs) n c (and-l (leb 1 n) (checksAnswered cs) z)
+
+  -- A LINE OF A KIND: its first fault is the first check that fails
+  pub same-faults : (said : Bool) (g : Group) (b : Batch) (k : Kind) (line : List ℕ)
+      → Same (lineChecks 6 (layout k) (testsFor said g b k (fieldsOf k line)) (cut 6 (widths (layout k)) line) (maximaFor b k (fieldsOf k line))) (faultOf said g b k line)
+  unfolding faultOf firstFault
+  same-faults said g b k line =
+      same-fields 6 (layout k) (testsFor said g b k (fieldsOf k line)) line (maximaFor b k (fieldsOf k line)) (checkRows (maximaFor b k (fieldsOf k line))) (omega arith) (tests-answered said g b k (fieldsOf k line))
+      (same-checks (maximaFor b k (fieldsOf k line)) (maxima-answered b k (fieldsOf k line)))
+
+-- ## A line without a fault passes the tests of its fields
+
+tests-hold : (c : ℕ) (ts : List Test) (cs : List Check) → Pass (fieldChecks c ts cs) → Hold ts × Pass cs
+tests-hold c [] cs p = (tt, p)
+tests-hold c (test b n ∷ ts) cs p = let r = tests-hold c ts cs (p .1) in ((p .0, r .0), r .1)
+
+all-hold : (c : ℕ) (fs : List Field) (t : Tests fs) (l : List ℕ) (cs : List Check) → Pass (lineChecks c fs t l cs) → Holds fs t
+all-hold c [] t l cs p = tt
+all-hold c (f ∷ fs) t l cs p = let r = tests-hold c (t .0) (lineChecks (c + width f) fs (t .1) (drop (width f) l) cs) (p .1) in (r .0, all-hold (c + width f) fs (t .1) (drop (width f) l) cs (r .1))
+
+pub faultless : (said : Bool) (g : Group) (b : Batch) (k : Kind) (line : List ℕ) → faultOf said g b k line .number ≡ 0 → Holds (layout k) (testsFor said g b k (fieldsOf k line))
+faultless said g b k line e = by (same-faults begin said g b k line) e
+  where
+    by : {f : Fault} → Same begin (lineChecks 6 (layout k) (testsFor said g b k (fieldsOf k line)) (cut 6 (widths (layout k)) line) (maximaFor b k (fieldsOf k line))) f → f .number ≡ 0 → Holds (layout k) (testsFor said g b k (fieldsOf k line))
+    by (passed p) e = all-hold 6 (layout k) (testsFor said g b k (fieldsOf k line)) (cut 6 (widths (layout k)) line) (maximaFor b k (fieldsOf k line)) p
+    by (stopped c n z q) e = absurd (omega arith)

@@ -1,0 +1,9 @@
+pub mod Places
+pub mod Faults
+pub mod Lines
+pub mod Reach
+pub mod Reached
+pub mod Run
+pub mod Meaning
+pub mod Longest
+pub mod Cases

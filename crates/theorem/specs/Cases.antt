@@ -1,0 +1,98 @@
+-- 01's cases that are proved (1 to 7, 10 and 11), of the definitions that the contracts name, in one table.
+use mathlib.Core.Path.{_≡_}
+use mathlib.Core.Bool.{Bool, true, false}
+use mathlib.Core.List.{List, [], _∷_}
+use mathlib.Core.Option.{none}
+use Prim.Native.Nat.{ℕ, _*_}
+use lib.ListN.{take, drop}
+use Rattle.format.specs.Rules.{maxAmount, weighted, isEleven, isDate, typeText}
+use Rattle.format.specs.Language.{Rec, tenDigits, batchHeaderRec, batchTrailerRec, lineOf}
+use Rattle.format.specs.Answers.{wrongValue, wrongAccount, differs, aboveMaximum, endsEarly}
+use Rattle.format.specs.declared.Kind.the-variants.{Transaction}
+use Rattle.format.specs.declared.Group.{Group}
+use Rattle.format.specs.declared.Group.the-variants.{Payments, Debits}
+use Rattle.format.specs.declared.TransactionType.the-variants.{Salary, Debit}
+use Rattle.record.specs.Faults.{faultAt, noFault, faultOf}
+use Rattle.record.specs.declared.Batch.{Batch}
+use Rattle.record.specs.declared.Fault.{Fault}
+use Rattle.reading.specs.Check.{checkOf}
+use Rattle.reading.specs.declared.Answer.{Answer}
+use Rattle.theorem.specs.Meaning.{answer}
+
+pub data Case : Type 0 where
+  -- an account, its weighted sum, and whether it passes the eleven check
+  eleven : ℕ → ℕ → Bool → Case
+  -- a date, and whether it exists
+  date : ℕ → Bool → Case
+  -- a record in a group after a batch so far, and its first fault
+  line : Group → Batch → Rec → Fault → Case
+  -- a batch's account sum, and how its trailer has it, which is accepted
+  accountSum : ℕ → List ℕ → Case
+  -- the bytes of a file, and their answer
+  file : List ℕ → Answer → Case
+
+-- a batch of the account 123456789: its number, its items so far, their total and account sum
+abbrev batch : ℕ → ℕ → ℕ → ℕ → Batch
+batch sequence items total accounts = record { account = 123456789; sequence = sequence; items = items; total = total; accounts = accounts; fixed = 0 }
+
+-- an item of it: a payment to 111111110, a debit from an account
+abbrev payment : ℕ → Rec
+payment amount = (Transaction, (typeText Salary, (amount, (123456789, (111111110, (tt, tt))))))
+
+abbrev debit : ℕ → Rec
+debit payer = (Transaction, (typeText Debit, (1, (payer, (123456789, (tt, tt))))))
+
+abbrev header : ℕ → Rec
+header sequence = batchHeaderRec Payments 123456789 sequence none
+
+-- of one item of one cent
+abbrev trailer : ℕ → Rec
+trailer accounts = batchTrailerRec 1 (tenDigits accounts) 1
+
+-- the 50 characters of a record
+abbrev lineText : Rec → List ℕ
+lineText r = lineOf [] r
+
+abbrev Holds : Case → Type 0
+Holds (eleven account weight passes) = (weighted 10 1 account ≡ weight) × (isEleven account ≡ passes)
+Holds (date day exists) = isDate day ≡ exists
+Holds (line g b r fault) = faultOf true g b (r .0) (lineText r) ≡ fault
+Holds (accountSum accounts text) = (take 10 (drop 23 (lineText (trailer accounts))) ≡ text) × (faultOf true Payments (batch 1 1 1 (tenDigits accounts)) (trailer accounts .0) (lineText (trailer accounts)) ≡ noFault)
+Holds (file bytes told) = checkOf bytes ≡ told
+
+abbrev pub Right : List Case → Type 0
+Right [] = Unit {0}
+Right (c ∷ cs) = Holds c × Right cs
+
+abbrev pub cases : List Case
+cases =
+    -- 1, 2
+    eleven 123456789 165 true
+    ∷ eleven 123456788 164 false
+    ∷ eleven 1000000001 11 true
+    ∷ eleven 1000000000 10 false
+    -- 3
+    ∷ line Debits (batch 1 0 0 0) (debit 9999999) noFault
+    ∷ eleven 10000003 11 true
+    ∷ line Debits (batch 1 0 0 0) (debit 10000003) (faultAt 22 wrongAccount)
+    ∷ line Debits (batch 1 0 0 0) (debit 0) (faultAt 22 wrongValue)
+    -- 4
+    ∷ line Payments (batch 1 0 0 0) (payment 45378021608) noFault
+    ∷ line Payments (batch 1 0 0 0) (payment 45378021609) (faultAt 10 wrongValue)
+    -- 5
+    ∷ line Payments (batch 1 100 (100 * maxAmount) 0) (payment 101) noFault
+    ∷ line Payments (batch 1 100 (100 * maxAmount) 0) (payment 102) (faultAt 10 aboveMaximum)
+    -- 6
+    ∷ accountSum 10000000003 (48 ∷ 48 ∷ 48 ∷ 48 ∷ 48 ∷ 48 ∷ 48 ∷ 48 ∷ 48 ∷ 51 ∷ [])
+    ∷ accountSum 10000000000 (48 ∷ 48 ∷ 48 ∷ 48 ∷ 48 ∷ 48 ∷ 48 ∷ 48 ∷ 48 ∷ 48 ∷ [])
+    -- 7
+    ∷ date 290208 true
+    ∷ date 290200 true
+    ∷ date 290209 false
+    ∷ date 310409 false
+    -- 10
+    ∷ file [] (answer endsEarly 1 0)
+    -- 11
+    ∷ line Payments (batch 9999 0 0 0) (header 1) (faultAt 18 differs)
+    ∷ line Payments (batch 9999 0 0 0) (header 0) (faultAt 18 wrongValue)
+    ∷ []

@@ -1,0 +1,4 @@
+pub mod Meaning
+pub mod Reached
+pub mod Cases
+pub mod Longest
