@@ -26,7 +26,8 @@ use Rattle.reading.specs.declared.Judged.{Judged}
 use Rattle.reading.specs.declared.LineRead.{LineRead}
 use Rattle.reading.specs.declared.Answer.{Answer}
 use Rattle.record.proofs.Reading.{valued}
-use Rattle.reading.proofs.Limits.{within-line, not-kept}
+use Rattle.reading.proofs.Limits.{within-line}
+use Rattle.reading.proofs.Judgements.{first-beyond}
 use Rattle.reading.proofs.Running.{skip, first-52}
 use Rattle.reading.proofs.Verdicts.{First, beyond, halted, moved, first}
 
@@ -42,13 +43,21 @@ unfolding pick
 either-way true j = refl
 either-way false j = refl
 
-lines-first : (s : State) (xs : List ℕ) → 0 < length xs → linesOf s (take 52 xs) ≡ judgedFirst s xs
-unfolding linesOf linesFrom
-lines-first s [] h = absurd (omega arith)
-lines-first s (x ∷ xs) h =
+one-line : (s : State) (x : ℕ) (xs : List ℕ) → linesFrom (refused s 0 0) 0 (take 52 (x ∷ xs)) ≡ judgedFirst s (x ∷ xs)
+unfolding linesFrom
+one-line s x xs =
     let j = judgedFirst s (x ∷ take 51 xs) in
     ap (λ (i : Judged). pick (eqb (j .number) 0) i j) (skip j 51 (take 51 xs) ∙ ap (linesFrom j 0) (drop-take 51 xs))
     ∙ either-way (eqb (j .number) 0) j ∙ first-52 s (x ∷ xs)
+
+lines-first : (s : State) (xs : List ℕ) → 0 < length xs → linesOf s (take 52 xs) ≡ judgedFirst s xs
+unfolding linesOf pick
+lines-first s [] h = absurd (omega arith)
+lines-first s (x ∷ xs) h = by (within s) refl
+  where
+    by : (q : Bool) → within s ≡ q → pick q (linesFrom (refused s 0 0) 0 (take 52 (x ∷ xs))) (refused s 0 24) ≡ judgedFirst s (x ∷ xs)
+    by true w = one-line s x xs
+    by false w = first-beyond s (x ∷ xs) w refl
 
 step-first : (s : State) (xs : List ℕ) → 0 < length xs → stepAt s xs ≡ readBy (take 50 xs) (judgedFirst s xs .code) (judgedFirst s xs)
 unfolding stepAt
@@ -59,17 +68,6 @@ pub step-none : {x : LineRead} (s : State) (xs : List ℕ) → length xs ≡ 0 �
 unfolding stepAt
 step-none s [] h e = e
 step-none s (x ∷ xs) h e = absurd (omega arith)
-
--- of no bytes, and from a state that is not kept
-pub lines-none : {x : Judged} (s : State) (xs : List ℕ) → length xs ≡ 0 → x ≡ refused s 0 0 → x ≡ linesOf s xs
-unfolding linesOf linesFrom
-lines-none s [] h e = e
-lines-none s (x ∷ xs) h e = absurd (omega arith)
-
-pub lines-beyond : {x : Judged} {b : Bool} (s : State) (xs : List ℕ) → b ≡ isKept s → b ≡ false → (length xs ≡ 0 → ⊥) → x ≡ refused s 0 24 → x ≡ linesOf s xs
-unfolding linesOf linesFrom judgedFirst pick
-lines-beyond s [] e f h k = absurd (h refl)
-lines-beyond s (x ∷ xs) e f h k = rw (not-kept s e f) k
 
 -- the line that a refusal names
 name-small : (n l : ℕ) → ((n ≡ 24 → ⊥) → l ≤ 6999369995) → refusalLine n l ≤ 6999369996
@@ -150,17 +148,20 @@ lines-named j zero (x ∷ xs) p =
     either-named (eqb (i .number) 0) (linesFrom i 51 xs) i (lines-named i 51 xs n) n
 
 module _ {j : Judged} {s : State} (file : List ℕ) (b : s ≡ startState) (e : j ≡ linesOf s file) where
-  is-run : j ≡ linesOf startState file
+  is-run : j ≡ linesFrom (refused startState 0 0) 0 file
+  unfolding linesOf within isKept pick
   is-run = e ∙ ap (λ u. linesOf u file) b
 
+  is-file : j ≡ linesOf startState file
+  is-file = e ∙ ap (λ u. linesOf u file) b
+
   pub file-named : (j .number ≡ 0 → ⊥) → refusalLine (j .number) (j .next .line) ≤ 6999369996
-  unfolding linesOf
   file-named z = name-small (j .number) (j .next .line) (subst Named (sym is-run) (lines-named (refused startState 0 0) 0 file (λ z n. absurd (z refl))) z)
 
   pub file-stop : {l : ℕ} → (j .number ≡ 0 → ⊥) → l ≡ refusalLine (j .number) (j .next .line) → _≡_ {A = Answer} (record { number = j .number; line = l; column = j .column }) (checkOf file)
   unfolding checkOf pick
-  file-stop z h = ap (λ n. record { number = j .number; line = n; column = j .column }) h ∙ sym (ap answerBy (sym is-run) ∙ rw (ne-eqb _ _ z))
+  file-stop z h = ap (λ n. record { number = j .number; line = n; column = j .column }) h ∙ sym (ap answerBy (sym is-file) ∙ rw (ne-eqb _ _ z))
 
   pub file-end : {r : LineRead} → j .number ≡ 0 → r ≡ endedAt (j .next) → answerOf r ≡ checkOf file
   unfolding checkOf pick
-  file-end z h = ap answerOf h ∙ sym (ap answerBy (sym is-run) ∙ rw (eq-eqb _ _ z))
+  file-end z h = ap answerOf h ∙ sym (ap answerBy (sym is-file) ∙ rw (eq-eqb _ _ z))

@@ -20,7 +20,7 @@ and-second : (a b : Bool) → (a && b) ≡ true → b ≡ true
 and-second true b h = h
 and-second false b h = absurd (subst (λ (t : Bool). T (not t)) h tt)
 
-pub kept-facts : {b : Bool} (s : State) → b ≡ isKept s → b ≡ true → Kept s
+kept-facts : {b : Bool} (s : State) → b ≡ isKept s → b ≡ true → Kept s
 unfolding isKept
 kept-facts s e t =
     let a = sym e ∙ t in
@@ -58,17 +58,13 @@ pub within-no : (s : State) → 6999369995 < s .line → within s ≡ false
 unfolding within
 within-no s h = rw (lt-leb (s .line) maxLine h)
 
-pub not-kept : {b : Bool} (s : State) → b ≡ isKept s → b ≡ false → within s ≡ false
-unfolding within
-not-kept s e f = rw (← e, f) (last (leb (s .line) maxLine))
-  where
-    last : (a : Bool) → (a && false) ≡ false
-    last true = refl
-    last false = refl
-
 pub within-line : (s : State) → within s ≡ true → s .line ≤ 6999369995
 unfolding within
 within-line s h = leb-true (s .line) maxLine (and-first _ _ h)
+
+pub within-kept : {b : Bool} (s : State) → b ≡ within s → b ≡ true → Kept s
+unfolding within
+within-kept s e t = kept-facts s refl (and-second (leb (s .line) maxLine) _ (sym e ∙ t))
 
 pub within-of : {b x : Bool} (s : State) → b ≡ isKept s → x ≡ (leb (s .line) maxLine && b) → x ≡ within s
 unfolding within

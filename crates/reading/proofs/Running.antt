@@ -14,7 +14,7 @@ use Rattle.format.specs.declared.Code.{Code}
 use Rattle.format.specs.declared.Code.the-variants.{Of, Unknown}
 use Rattle.reading.specs.State.{Kept, within}
 use Rattle.reading.specs.Step.{refused, isWhole, isDone, judgedLine, judgedFirst}
-use Rattle.reading.specs.Check.{linesFrom, linesOf}
+use Rattle.reading.specs.Check.{linesFrom}
 use Rattle.reading.specs.declared.State.{State}
 use Rattle.reading.specs.declared.Judged.{Judged}
 
@@ -29,19 +29,18 @@ skip j (suc k) (x ∷ xs) = skip j k xs
 
 -- the lines from a place on, after the last one read, come to what all do
 pub record Running (start : State) (bytes : List ℕ) (last : Judged) (at : ℕ) : Type 0 where
-  pub rest : linesFrom last 0 (drop at bytes) ≡ linesOf start bytes
+  pub rest : linesFrom last 0 (drop at bytes) ≡ linesFrom (refused start 0 0) 0 bytes
 
 pub run-none : {j : Judged} (start : State) (bytes : List ℕ) → j ≡ refused start 0 0 → Running (j .next) bytes j 0
-unfolding linesOf
 run-none start bytes e = record { rest = rw e }
 
-pub run-from : {x j : Judged} (start : State) (bytes : List ℕ) → j ≡ refused start 0 0 → x ≡ linesOf (j .next) bytes → x ≡ linesOf start bytes
-run-from start bytes e h = h ∙ ap (λ (i : Judged). linesOf (i .next) bytes) e
+pub run-from : {x j : Judged} (start : State) (bytes : List ℕ) → j ≡ refused start 0 0 → x ≡ linesFrom (refused (j .next) 0 0) 0 bytes → x ≡ linesFrom (refused start 0 0) 0 bytes
+run-from start bytes e h = h ∙ ap (λ (i : Judged). linesFrom (refused (i .next) 0 0) 0 bytes) e
 
 pub kept-start : {j : Judged} (start : State) → j ≡ refused start 0 0 → Kept start → Kept (j .next)
 kept-start start e k = rw e k
 
-pub run-all : {start : State} {bytes : List ℕ} {last : Judged} {at : ℕ} → Running start bytes last at → length bytes ≤ at → last ≡ linesOf start bytes
+pub run-all : {start : State} {bytes : List ℕ} {last : Judged} {at : ℕ} → Running start bytes last at → length bytes ≤ at → last ≡ linesFrom (refused start 0 0) 0 bytes
 unfolding linesFrom
 run-all {bytes = bytes} r l = rw (← r .rest, drop-of-length-le bytes l)
 
@@ -65,7 +64,7 @@ module _ {start : State} {bytes p : List ℕ} {last : Judged} {at : ℕ} {j : Ju
   one : judgedFirst (last .next) (getD bytes at 0 ∷ drop (suc at) bytes) ≡ j
   one = rw (← drop-cons bytes at 0 l) (sym (e ∙ ap (judgedFirst (last .next)) d ∙ first-52 (last .next) (drop at bytes)))
 
-  pub run-stop : (j .number ≡ 0 → ⊥) → j ≡ linesOf start bytes
+  pub run-stop : (j .number ≡ 0 → ⊥) → j ≡ linesFrom (refused start 0 0) 0 bytes
   unfolding linesFrom pick
   run-stop z = rw (← r .rest, drop-cons bytes at 0 l, one, ne-eqb _ _ z)
 

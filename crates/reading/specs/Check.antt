@@ -3,7 +3,8 @@ use Prim.Native.Nat.{ℕ, zero, suc}
 use mathlib.Core.List.{List, [], _∷_}
 use lib.Dec.{eqb}
 use Rattle.machine.specs.Lists.{pick}
-use Rattle.reading.specs.State.{startState}
+use Rattle.format.specs.Answers.{accepted, beyondLimits}
+use Rattle.reading.specs.State.{startState, within}
 use Rattle.reading.specs.Step.{refused, judgedFirst, refusalLine, endedAt}
 use Rattle.reading.specs.declared.State.{State}
 use Rattle.reading.specs.declared.Judged.{Judged}
@@ -18,8 +19,9 @@ linesFrom j zero (x ∷ xs) =
     let first = judgedFirst (j .next) (x ∷ xs) in
     pick (eqb (first .number) 0) (linesFrom first 51 xs) first
 
+-- where nothing is refused, the last line's code and the state after it; of no bytes, the state as it was
 unfoldable pub linesOf : State → List ℕ → Judged
-linesOf s xs = linesFrom (refused s 0 0) 0 xs
+linesOf s xs = pick (within s) (linesFrom (refused s 0 accepted) 0 xs) (refused s 0 beyondLimits)
 
 abbrev pub answerOf : LineRead → Answer
 answerOf r = record { number = r .answer; line = r .line; column = r .column }

@@ -4,10 +4,10 @@ ghost use mathlib.Core.Bool.{true};
 ghost use Prim.Native.Nat.{_≤_};
 ghost use lib.ListN.{take, drop};
 ghost use Rattle.format.specs.declared.Kind.the-variants.{Transaction};
-ghost use Rattle.reading.specs.State.{Kept, isKept};
+ghost use Rattle.reading.specs.State.{Kept, isKept, within};
 ghost use Rattle.reading.specs.Order.{isTransaction};
 ghost use Rattle.reading.specs.Step.{refused, judgedAs, judgedKind, judgedLine, isWhole, judgedFirst};
-ghost use Rattle.reading.specs.Check.{linesOf};
+ghost use Rattle.reading.specs.Check.{linesFrom, linesOf};
 use crate::Judged;
 use crate::Stage;
 use crate::State;
@@ -169,7 +169,7 @@ impl Judged {
 }
 
 // The limits of a state but for its line number.
-pub(crate) fn is_kept(s: State) -> bool
+fn is_kept(s: State) -> bool
     ensures { λ r. ⌜ r ≡ isKept s ⌝ }
 {
     let b = s.batch;
@@ -182,7 +182,7 @@ pub(crate) fn is_kept(s: State) -> bool
 
 fn run(start: State, bytes: &[u8]) -> Judged
     requires { ⌜ Kept start ⌝ }
-    ensures { λ r. ⌜ r ≡ linesOf start (now (bytes .entry)) ⌝ }
+    ensures { λ r. ⌜ r ≡ linesFrom (refused start 0 0) 0 (now (bytes .entry)) ⌝ }
 {
     let mut last = start.refused(0, 0);
     let mut at = 0;
@@ -196,15 +196,19 @@ fn run(start: State, bytes: &[u8]) -> Judged
     last
 }
 
+pub(crate) fn is_within(s: State) -> bool
+    ensures { λ r. ⌜ r ≡ within s ⌝ }
+{
+    (s.line <= 6999369995) & is_kept(s)
+}
+
 // All lines of some bytes, up to the first that is refused.
 pub fn lines(start: State, bytes: &[u8]) -> Judged
     ensures { λ r. ⌜ r ≡ linesOf start (now (bytes .entry)) ⌝ }
 {
-    if is_kept(start) {
-        return run(start, bytes);
+    if is_within(start) {
+        run(start, bytes)
+    } else {
+        start.refused(format::BEYOND_LIMITS, 0)
     }
-    if bytes.len() == 0 {
-        return start.refused(0, 0);
-    }
-    start.refused(format::BEYOND_LIMITS, 0)
 }

@@ -1,12 +1,11 @@
 // The line reader.
 ghost use mathlib.Core.Path.{_≡_};
 ghost use Prim.Native.Nat.{_≤_};
-ghost use Rattle.reading.specs.State.{within};
 ghost use Rattle.reading.specs.Step.{refusalLine, nothingRead, endedAt, stepAt};
 use crate::LineRead;
 use crate::Stage;
 use crate::State;
-use crate::judge::is_kept;
+use crate::judge::is_within;
 use crate::judge::lines;
 use crate::order::is_stage;
 use field::bytes::part;
@@ -14,12 +13,6 @@ use format::Code;
 use record::Record;
 use record::read::record_in;
 use record::read::text_in;
-
-fn is_within(s: State) -> bool
-    ensures { λ r. ⌜ r ≡ within s ⌝ }
-{
-    (s.line <= 6999369995) & is_kept(s)
-}
 
 // The line that a refusal names: 24 names none.
 pub(crate) fn refusal_line(number: u8, line: u64) -> u64

@@ -29,7 +29,7 @@ use Rattle.reading.specs.declared.Name.the-variants.{Unwanted, Due, Read, Past}
 use Rattle.reading.specs.declared.State.{State}
 use Rattle.reading.specs.declared.Judged.{Judged}
 use Rattle.reading.specs.declared.Answer.{Answer}
-use Rattle.reading.specs.State.{startState}
+use Rattle.reading.specs.State.{startState, isKept, within}
 use Rattle.reading.specs.Order.{isStage}
 use Rattle.reading.specs.Step.{refused, taken, judgedLine, isWhole, isDone, judgedFirst, endedAt}
 use Rattle.reading.specs.Check.{linesFrom, linesOf, answerBy, checkOf}
@@ -181,5 +181,5 @@ simulates (suc k) j (x ∷ xs) l z i =
 
 -- THE SAME ANSWER for every list of bytes
 pub same-answer : (b : List ℕ) → Says (checkOf b) (readFile b)
-unfolding checkOf linesOf readFile lines.answer
+unfolding checkOf linesOf within isKept pick readFile lines.answer
 same-answer b = simulates (suc (length b)) (refused startState 0 0) b (omega arith) refl reach-start

@@ -1,7 +1,7 @@
 use borrow.Author.Needs.{needs}
 use Rattle.reading.proofs.Limits.{within-of}
-use Rattle.reading.proofs.line.is_within.Statement.{statement}
-use Rattle.reading.proofs.line.is_within.Tie as tie
+use Rattle.reading.proofs.judge.is_within.Statement.{statement}
+use Rattle.reading.proofs.judge.is_within.Tie as tie
 
 pub is-within-spec : {M : Type 1} → statement M
 is-within-spec =
