@@ -4,11 +4,11 @@ use mathlib.Core.Path.{_≡_, refl, sym, ap, ap₂, _∙_, subst}
 use mathlib.Core.List.{List, [], _∷_}
 use mathlib.Core.Bool.{Bool, true, false}
 use native.Mathlib.Omega.{arith}
-use borrow.Author.Tests.{eq-eqb, ne-eqb}
+use borrow.Author.Tests.{eq-eqb, ne-eqb, leb-true}
 use borrow.Author.Needs.{needs}
 use lib.ListN.{length, take, drop, length-take}
 use lib.Seq.{drop-nil}
-use lib.Dec.{T, eqb}
+use lib.Dec.{T, eqb, leb}
 use mir.Val.{Fits}
 use mir.Syntax.{w64}
 use Rattle.machine.specs.Lists.{pick}
@@ -78,9 +78,10 @@ name-small n l f = by (eqb n 24) refl
     by true h = omega arith
     by false h = let k = f (λ e. subst T (sym (eq-eqb n 24 e) ∙ h) tt) in omega arith
 
-pub named-fits : (n l : ℕ) → refusalLine n l ≤ 6999369996 → (n ≡ 24 → ⊥) → Fits w64 (l + 1)
+-- a sum of it with a digit fits (that it is the next line is no part of this)
+pub named-fits : (n l d : ℕ) → refusalLine n l ≤ 6999369996 → (n ≡ 24 → ⊥) → leb d 9 ≡ true → Fits w64 (l + d)
 unfolding pick
-named-fits n l f h = let k : l + 1 ≤ 6999369996 = rw (ne-eqb n 24 h) at f in omega arith
+named-fits n l d f h e = let k : l + 1 ≤ 6999369996 = rw (ne-eqb n 24 h) at f in omega (arith, leb-true d 9 e)
 
 -- what the judging says of a line that is taken, and of one that is refused
 code-fault : {s : State} {xs : List ℕ} {j : Judged} → First s xs j → (k : Kind) → j .code ≡ Of k → faultOf (s .said) (s .group) (s .batch) k (take 50 xs) .number ≡ 0

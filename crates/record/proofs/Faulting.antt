@@ -160,6 +160,9 @@ module _ {x : Fault} (b : Batch) (next : ℕ) where
 
 pub ruleset maxima = (too-many, too-much, much-in-all, within-maxima, needs)
 
+pub below : {a b : ℕ} → a < b → a ≤ b
+below h = omega arith
+
 -- ## A batch header
 
 -- the rows of both variants

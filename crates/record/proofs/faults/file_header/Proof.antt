@@ -12,14 +12,14 @@ file-header-spec =
     (tie.spec
     (λ c κs. search needs)  -- date-requires
     (λ c κs. search needs)  -- fault-requires
-    (λ c. search (rows, identification-row) depth 20 fits 10000)  -- returns
+    (λ c. search rows depth 20 fits 10000)  -- returns
     (λ c. search needs)  -- slice-aggregate-exactly-no
     (λ c κs. search needs)  -- exactly-no-requires
     (λ c κs. search needs)  -- fault-requires-2
-    (λ c. search (rows, identification-row) depth 20 fits 10000)  -- returns-2
+    (λ c. search rows depth 20 fits 10000)  -- returns-2
     (λ c κs. search needs)  -- filled-no-requires
     (λ c κs. search needs)  -- fault-requires-3
-    (λ c. search (rows, identification-row) depth 20 fits 10000)  -- returns-3
+    (λ c. search rows depth 20 fits 10000)  -- returns-3
     (λ c κs. search needs)  -- identification-no-requires
     (λ c κs. search needs)  -- fault-requires-4
     (λ c. search (rows, identification-row) depth 20 fits 10000)  -- returns-4

@@ -1,5 +1,5 @@
 use borrow.Author.Needs.{needs}
-use Rattle.record.proofs.Faulting.{maxima}
+use Rattle.record.proofs.Faulting.{maxima, too-many, below}
 use Rattle.record.proofs.faults.maxima_fault.Statement.{statement}
 use Rattle.record.proofs.faults.maxima_fault.Tie as tie
 
@@ -8,7 +8,7 @@ maxima-fault-spec =
     tie.close
     (tie.spec
     (λ c κs. search needs)  -- fault-requires
-    (λ c. search maxima depth 20 fits 10000)  -- returns
+    (λ c. search (too-many, below) depth 20 fits 10000)  -- returns
     (λ c κs. search needs)  -- fault-requires-2
     (λ c. search maxima depth 20 fits 10000)  -- returns-2
     (λ c κs. search needs)  -- fault-requires-3
