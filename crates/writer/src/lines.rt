@@ -1,0 +1,152 @@
+// The line of a record of each kind, with its end.
+ghost use mathlib.Core.Path.{_≡_};
+ghost use mathlib.Core.List.{[], _∷_, _++_};
+ghost use Prim.Native.Nat.{_-_, _≤_};
+ghost use lib.ListN.{length};
+ghost use Rattle.machine.specs.Lists.{spaces};
+ghost use Rattle.format.specs.Fields.{filled, filler};
+ghost use Rattle.format.specs.Records.{layout, code};
+ghost use Rattle.format.specs.declared.Kind.the-variants.{FileHeader, OrderingParty, BatchTrailer, FileTrailer};
+ghost use Rattle.format.specs.declared.Kind.the-variants as kinds;
+ghost use Rattle.writer.specs.Encoding.{lineEnd, encodedLine};
+ghost use Rattle.writer.specs.Entries.{fileHeaderGiven, headerStart, batchHeaderLine, orderingPartyGiven, itemGiven, batchTrailerGiven, lineFor};
+use crate::Entry;
+use crate::fields::put_blank;
+use crate::fields::put_bytes;
+use crate::fields::put_group;
+use crate::fields::put_number;
+use crate::fields::put_test;
+use crate::fields::put_text;
+use crate::fields::put_type;
+use format::Group;
+use reading::State;
+use record::Transaction;
+
+// Spaces after the code.
+fn coded(code: &[u8]) -> [u8; 52]
+    requires { ⌜ length (now code) ≡ 5 ⌝ }
+    ensures { λ r. ⌜ r ≡ now (code .entry) ++ (spaces 45 ++ lineEnd) ⌝ }
+{
+    let mut line = [32u8; 52];
+    line[50] = 13;
+    line[51] = 10;
+    put_bytes(line, 0, code)
+}
+
+fn file_header(created: u64, identification: u64, duplicate: u64, text: [u8; 35]) -> [u8; 52]
+    ensures { λ r. ⌜ r ≡ encodedLine (code FileHeader) (layout FileHeader) (fileHeaderGiven created identification duplicate text) ⌝ }
+{
+    let a = put_number(coded(b"0001A"), 5, 6, created);
+    let b = put_bytes(a, 11, b"CLIEOP03");
+    let c = put_text(b, 19, 5, &text);
+    let d = put_number(c, 24, 4, identification);
+    put_number(d, 28, 1, duplicate)
+}
+
+// What both variants of a batch header begin with.
+fn put_header(line: [u8; 52], group: Group, account: u64, sequence: u64) -> [u8; 52]
+    ensures { λ r. ⌜ r ≡ headerStart line group account sequence ⌝ }
+{
+    let a = put_group(line, group);
+    let b = put_number(a, 7, 10, account);
+    let c = put_number(b, 17, 4, sequence);
+    put_bytes(c, 21, b"EUR")
+}
+
+fn batch_header(
+    group: Group,
+    account: u64,
+    sequence: u64,
+    identified: bool,
+    text: [u8; 35],
+) -> [u8; 52]
+    ensures { λ r. ⌜ r ≡ batchHeaderLine identified group account sequence text ⌝ }
+{
+    if identified {
+        let c = put_header(coded(b"0010C"), group, account, sequence);
+        return put_text(c, 24, 16, &text);
+    }
+    let b = put_header(coded(b"0010B"), group, account, sequence);
+    put_blank(b, 24, 16, &text)
+}
+
+fn ordering_party(name_code: u64, desired: u64, test: bool, text: [u8; 35]) -> [u8; 52]
+    ensures { λ r. ⌜ r ≡ encodedLine (code OrderingParty) (layout OrderingParty) (orderingPartyGiven «name_code» desired test text) ⌝ }
+{
+    let a = put_number(coded(b"0030B"), 5, 1, name_code);
+    let b = put_number(a, 6, 6, desired);
+    let c = put_text(b, 12, 35, &text);
+    put_test(c, test)
+}
+
+fn item(t: Transaction, text: [u8; 35]) -> [u8; 52]
+    ensures { λ r. ⌜ r ≡ encodedLine (code kinds.Transaction) (layout kinds.Transaction) (itemGiven t text) ⌝ }
+{
+    let kind = t.kind;
+    let a = put_type(coded(b"0100A"), kind);
+    let b = put_number(a, 9, 12, t.amount);
+    let c = put_number(b, 21, 10, t.payer);
+    let d = put_number(c, 31, 10, t.beneficiary);
+    put_blank(d, 41, 9, &text)
+}
+
+// A record that is its text.
+fn text_line(code: &[u8], width: usize, text: [u8; 35]) -> [u8; 52]
+    requires code { ⌜ length (now code) ≡ 5 ⌝ }
+    requires width { ⌜ width ≤ 35 ⌝ }
+    ensures { λ r. ⌜ r ≡ encodedLine (now (code .entry)) (filled width ∷ filler (45 - width) ∷ []) (text, ([], tt)) ⌝ }
+{
+    put_text(coded(code), 5, width, &text)
+}
+
+fn batch_trailer(total: u64, accounts: u64, items: u64, text: [u8; 35]) -> [u8; 52]
+    ensures { λ r. ⌜ r ≡ encodedLine (code BatchTrailer) (layout BatchTrailer) (batchTrailerGiven total accounts items text) ⌝ }
+{
+    let a = put_number(coded(b"9990A"), 5, 18, total);
+    let b = put_number(a, 23, 10, accounts);
+    let c = put_number(b, 33, 7, items);
+    put_blank(c, 40, 10, &text)
+}
+
+fn file_trailer(text: [u8; 35]) -> [u8; 52]
+    ensures { λ r. ⌜ r ≡ encodedLine (code FileTrailer) (layout FileTrailer) (text, tt) ⌝ }
+{
+    put_blank(coded(b"9999A"), 5, 45, &text)
+}
+
+// The line of a record to write, with the trailer's numbers from the state.
+pub(crate) fn entry_line(state: State, entry: Entry, text: [u8; 35]) -> [u8; 52]
+    ensures { λ r. ⌜ r ≡ lineFor state entry text ⌝ }
+{
+    match entry {
+        Entry::FileHeader {
+            created,
+            identification,
+            duplicate,
+        } => file_header(created, identification, duplicate, text),
+        Entry::BatchHeader {
+            group,
+            account,
+            sequence,
+            identified,
+        } => batch_header(group, account, sequence, identified, text),
+        Entry::FixedDescription => text_line(b"0020A", 32, text),
+        Entry::OrderingParty {
+            code,
+            desired,
+            test,
+        } => ordering_party(code, desired, test, text),
+        Entry::Item(t) => item(t, text),
+        Entry::NamePayer => text_line(b"0110B", 35, text),
+        Entry::PaymentReference => text_line(b"0150A", 16, text),
+        Entry::Description => text_line(b"0160A", 32, text),
+        Entry::NameBeneficiary => text_line(b"0170B", 35, text),
+        Entry::BatchTrailer => batch_trailer(
+            state.batch.total,
+            state.batch.accounts,
+            state.batch.items,
+            text,
+        ),
+        Entry::FileTrailer => file_trailer(text),
+    }
+}
