@@ -1,5 +1,12 @@
 // Writes a file record by record: a record becomes a line, the reader judges it, and a line that it accepts goes to the lent room.
+ghost use mathlib.Core.Path.{_≡_};
+ghost use mathlib.Core.List.{_++_};
+ghost use Prim.Native.Nat.{_≤_};
+ghost use lib.ListN.{length, drop};
+ghost use Rattle.reading.specs.Step.{stepAt};
+ghost use Rattle.writer.specs.Writing.{writtenBy, roomBy, writtenOf, roomOf};
 use format::Group;
+use lines::entry_line;
 use reading::State;
 use record::Transaction;
 
@@ -40,4 +47,59 @@ pub struct Written {
     pub line: u64,
     pub column: u8,
     pub next: State,
+}
+
+// 12: the lent room is too small.
+pub const NO_ROOM: u8 = 12;
+
+// A line at the front of the room.
+fn place(line: [u8; 52], out: &mut [u8])
+    requires { ⌜ 52 ≤ length (now out) ⌝ }
+    ensures { λ _. ⌜ now (out .exit) ≡ line ++ drop 52 (now (out .entry)) ⌝ }
+{
+    let mut i: usize = 0;
+    while i < 52 {
+        out[i] = line[i];
+        i += 1;
+    }
+}
+
+// A line that the reader accepts is written where there is room.
+fn write_line(state: State, line: [u8; 52], out: &mut [u8]) -> Written
+    ensures answer { λ w. ⌜ w ≡ writtenBy state (length (now (out .entry))) (stepAt state line) ⌝ }
+    ensures bytes { λ _. ⌜ now (out .exit) ≡ roomBy (stepAt state line) line (now (out .entry)) ⌝ }
+{
+    let r = state.line(&line);
+    let next = r.next;
+    if r.answer != 0 {
+        return Written {
+            answer: r.answer,
+            line: r.line,
+            column: r.column,
+            next: state,
+        };
+    }
+    if out.len() < 52 {
+        return Written {
+            answer: NO_ROOM,
+            line: r.line,
+            column: 0,
+            next: state,
+        };
+    }
+    place(line, out);
+    Written {
+        answer: 0,
+        line: r.line,
+        column: 0,
+        next,
+    }
+}
+
+// Writes one record after those so far: its answer, line and column, and the state after it.
+pub fn write(state: State, entry: Entry, text: [u8; 35], out: &mut [u8]) -> Written
+    ensures answer { λ w. ⌜ w ≡ writtenOf state entry text (length (now (out .entry))) ⌝ }
+    ensures bytes { λ _. ⌜ now (out .exit) ≡ roomOf state entry text (now (out .entry)) ⌝ }
+{
+    write_line(state, entry_line(state, entry, text), out)
 }

@@ -1,0 +1,14 @@
+use borrow.Author.Needs.{needs}
+use Rattle.writer.proofs.Placing.{writes}
+use Rattle.writer.proofs.write.Statement.{statement}
+use Rattle.writer.proofs.write.Tie as tie
+
+pub write-spec : {M : Type 1} → statement M
+write-spec =
+    tie.close
+    (tie.spec
+    (λ c κs. search needs)  -- entry-line-requires
+    (λ c κs. search needs)  -- write-line-requires
+    (λ c. search needs)  -- same-length
+    (λ c. search writes depth 20 fits 10000)  -- returns
+    )

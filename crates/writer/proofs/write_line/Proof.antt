@@ -1,0 +1,17 @@
+use borrow.Author.Needs.{needs}
+use Rattle.writer.proofs.Placing.{rooms}
+use Rattle.writer.proofs.write_line.Statement.{statement}
+use Rattle.writer.proofs.write_line.Tie as tie
+
+pub write-line-spec : {M : Type 1} → statement M
+write-line-spec =
+    tie.close
+    (tie.spec
+    (λ c. search needs)  -- slice-aggregate-line
+    (λ c κs. search needs)  -- line-requires
+    (λ c. search rooms depth 20 fits 10000)  -- returns
+    (λ c. search rooms depth 20 fits 10000)  -- returns-2
+    (λ c κs. search needs)  -- place-requires
+    (λ c. search needs)  -- same-length
+    (λ c. search rooms depth 20 fits 10000)  -- returns-3
+    )
