@@ -79,7 +79,7 @@ test-long false = refl
 
 -- ## Field after field: what is written so far, then spaces and the end
 
-spaces-split : (w n : ℕ) → spaces (w + n) ≡ spaces w ++ spaces n
+pub spaces-split : (w n : ℕ) → spaces (w + n) ≡ spaces w ++ spaces n
 spaces-split zero n = let q : 0 + n ≡ n = omega arith in ap spaces q
 spaces-split (suc w) n = let q : suc w + n ≡ suc (w + n) = omega arith in ap spaces q ∙ ap (λ t. 32 ∷ t) (spaces-split w n)
 

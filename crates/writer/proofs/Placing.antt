@@ -96,5 +96,3 @@ module _ {l : List ℕ} (s : State) (e : Entry) (t : List ℕ) (p : l ≡ lineFo
   pub room-via : {o : List ℕ} (out : List ℕ) → o ≡ roomBy (stepAt s l) l out → o ≡ roomOf s e t out
   unfolding roomOf
   room-via out h = h ∙ ap (λ m. roomBy (stepAt s m) m out) p
-
-pub ruleset writes = (answer-via, room-via, needs)

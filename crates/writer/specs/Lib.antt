@@ -1,3 +1,4 @@
 pub mod Encoding
 pub mod Entries
 pub mod Writing
+pub mod Promises

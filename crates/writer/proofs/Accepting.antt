@@ -1,0 +1,273 @@
+-- A line that is accepted: its kind, and that it is its fields as the table writes them. Assumes nothing.
+use Prim.Native.Nat.{ℕ, zero, suc, _+_, _-_, _≤_, _<_}
+use mathlib.Core.Path.{_≡_, refl, sym, ap, ap₂, _∙_, subst}
+use mathlib.Core.List.{List, [], _∷_, _++_, append-assoc}
+use mathlib.Core.Bool.{Bool, true, false, not, _&&_}
+use mathlib.Core.Option.{Option, none, some}
+use native.Mathlib.Omega.{arith}
+use borrow.Author.Tests.{leb-true, eqb-true, eq-eqb}
+use lib.ListN.{length, getD, take, drop, take-append-drop, length-take, length-drop}
+use lib.Seq.{take-at, take-all, take-add, take-take, drop-cons, drop-drop, length-take-le}
+use lib.Dec.{T, eqb, leb}
+use Rattle.machine.specs.Lists.{pick, same}
+use Rattle.machine.proofs.Base.{of-eq, same→eq}
+use Rattle.format.specs.Fields.{Field, width, Values, widths, wellFormed, readField, writeField, writeFields, Fit, Fits}
+use Rattle.format.specs.Records.{layout, code, Fields}
+use Rattle.format.specs.Tests.{Test, test, Tests, groupTests}
+use Rattle.format.specs.declared.Kind.{Kind}
+use Rattle.format.specs.declared.Kind.the-variants.{FileHeader, BatchHeaderB, BatchHeaderC, FixedDescription, OrderingParty, Transaction, NamePayer, CityPayer, PaymentReference, Description, NameBeneficiary, CityBeneficiary, BatchTrailer, FileTrailer}
+use Rattle.format.specs.declared.Group.{Group}
+use Rattle.format.specs.declared.Code.{Code}
+use Rattle.format.specs.declared.Code.the-variants.{Of, Unknown}
+use Rattle.format.proofs.Checks.{Hold, Holds, read-field}
+use Rattle.format.proofs.Link.{line-widths}
+use Rattle.field.specs.Rows.{Row, cut, firstNo, fieldNo, rowsAt, checkRows, fieldsAt, firstOr}
+use Rattle.field.proofs.Numerics.{Numbered, and-first, and-second}
+use Rattle.record.specs.Kinds.{codeOf, debitCode, batchCode, fileCode}
+use Rattle.record.specs.Faults.{faultAt, noFault, firstFault, fieldsOf, groupSaid, testsFor, maximaFor, faultOf}
+use Rattle.record.specs.Read.{recordFor, textFor}
+use Rattle.record.specs.declared.Batch.{Batch}
+use Rattle.record.specs.declared.Fault.{Fault}
+use Rattle.reading.specs.State.{within}
+use Rattle.reading.specs.Step.{nextFor, refused, judgedLine, isWhole, isDone, judgedFirst, readBy, nothingRead, stepAt}
+use Rattle.reading.specs.declared.State.{State}
+use Rattle.reading.specs.declared.Judged.{Judged}
+use Rattle.reading.specs.declared.LineRead.{LineRead}
+use Rattle.reading.proofs.Running.{first-52}
+use Rattle.reading.proofs.Verdicts.{First, beyond, halted, moved, first}
+use Rattle.writer.specs.Encoding.{lineEnd}
+
+true≢false : true ≡ false → ⊥
+true≢false e = subst T e tt
+
+-- ## Rows that all passed
+
+formed : (f : Field) (ts : List Test) (l : List ℕ) → fieldNo f ts l ≡ 0 → (wellFormed f l ≡ true) × (firstNo ts ≡ 0)
+unfolding fieldNo pick
+formed f ts l z = by (wellFormed f l) z
+  where
+    by : (q : Bool) → pick q (firstNo ts) 4 ≡ 0 → (q ≡ true) × (firstNo ts ≡ 0)
+    by true e = (refl, e)
+    by false e = absurd (omega arith)
+
+none-fails : (ts : List Test) → Numbered ts → firstNo ts ≡ 0 → Hold ts
+unfolding pick
+none-fails [] n z = tt
+none-fails (test true a ∷ ts) n z = (tt, none-fails ts (n .1) z)
+none-fails (test false a ∷ ts) n z = absurd (subst (λ b. T (not b)) (eq-eqb a 0 z) (n .0))
+
+abbrev AllNumbered : (fs : List Field) → Tests fs → Type 0
+AllNumbered [] t = Unit {0}
+AllNumbered (f ∷ fs) t = Numbered (t .0) × AllNumbered fs (t .1)
+
+-- what is known of a line whose fields have no fault
+pub record Faultless (c : ℕ) (fs : List Field) (t : Tests fs) (xs : List ℕ) : Type 0 where
+  pub fits : Fits fs (fieldsAt c fs xs)
+  pub holds : Holds fs t
+  pub is : take (widths fs) (drop (c - 1) xs) ≡ writeFields fs (fieldsAt c fs xs)
+
+faultless : (c : ℕ) (fs : List Field) (t : Tests fs) (xs : List ℕ) (k : List Row) → 1 ≤ c → (c - 1) + widths fs ≤ length xs → AllNumbered fs t → firstOr faultAt (rowsAt c fs t xs k) noFault .number ≡ 0 → Faultless c fs t xs
+unfolding firstOr pick
+faultless c [] t xs k p h n z = record { fits = tt; holds = tt; is = refl }
+faultless c (f ∷ fs) t xs k p h n z = by (eqb no 0) refl (faultless (c + width f) fs (t .1) xs k (omega arith) (omega arith) (n .1)) z
+  where
+    no : ℕ
+    no = fieldNo f (t .0) (cut c (width f) xs)
+
+    rest : Fault
+    rest = firstOr faultAt (rowsAt (c + width f) fs (t .1) xs k) noFault
+
+    by : (q : Bool) → eqb no 0 ≡ q → (rest .number ≡ 0 → Faultless (c + width f) fs (t .1) xs) → pick q rest (faultAt c no) .number ≡ 0 → Faultless c (f ∷ fs) t xs
+    by true e again y =
+        let a = formed f (t .0) (cut c (width f) xs) (eqb-true no 0 e) in
+        let long : length (cut c (width f) xs) ≡ width f = length-take-le (width f) (drop (c - 1) xs) (rw length-drop (omega arith)) in
+        let m = read-field f (cut c (width f) xs) long (of-eq _ (a .0)) in
+        let r = again y in
+        let q : (c - 1) + width f ≡ c + width f - 1 = omega arith in
+        record {
+          fits = (m .0, r .fits);
+          holds = (none-fails (t .0) (n .0) (a .1), r .holds);
+          is = take-add (width f) (widths fs) (drop (c - 1) xs) ∙ ap₂ _++_ (m .1) (ap (take (widths fs)) (drop-drop (width f) (c - 1) xs ∙ ap (λ i. drop i xs) q) ∙ r .is);
+        }
+    by false e again y = absurd (true≢false (sym (eq-eqb no 0 y) ∙ e))
+
+group-numbered : (o : Option Group) (t : List ℕ) → Numbered (groupTests o t)
+group-numbered none t = tt
+group-numbered (some g) t = (tt, tt)
+
+numbered : (said : Bool) (g : Group) (b : Batch) (k : Kind) (x : Fields k) → AllNumbered (layout k) (testsFor said g b k x)
+numbered said g b FileHeader x = ((tt, tt), ((tt, tt), (tt, ((tt, (tt, tt)), ((tt, tt), (tt, tt))))))
+numbered said g b BatchHeaderB x = ((tt, group-numbered (groupSaid said g) _), ((tt, (tt, tt)), ((tt, (tt, tt)), ((tt, tt), (tt, (tt, tt))))))
+numbered said g b BatchHeaderC x = ((tt, group-numbered (groupSaid said g) _), ((tt, (tt, tt)), ((tt, (tt, tt)), ((tt, tt), (tt, (tt, tt))))))
+numbered said g b FixedDescription x = (tt, (tt, tt))
+numbered said g b OrderingParty x = ((tt, (tt, tt)), ((tt, tt), (tt, ((tt, tt), (tt, tt)))))
+numbered said g b Transaction x = ((tt, (tt, tt)), ((tt, tt), ((tt, (tt, (tt, tt))), ((tt, (tt, (tt, tt))), (tt, tt)))))
+numbered said g b NamePayer x = (tt, (tt, tt))
+numbered said g b CityPayer x = (tt, tt)
+numbered said g b PaymentReference x = (tt, (tt, tt))
+numbered said g b Description x = (tt, (tt, tt))
+numbered said g b NameBeneficiary x = (tt, (tt, tt))
+numbered said g b CityBeneficiary x = (tt, tt)
+numbered said g b BatchTrailer x = ((tt, (tt, tt)), ((tt, tt), ((tt, (tt, tt)), (tt, tt))))
+numbered said g b FileTrailer x = (tt, tt)
+
+-- ## Codes
+
+pub code-found : (k : Kind) → codeOf (code k) ≡ Of k
+unfolding codeOf debitCode batchCode fileCode same pick
+code-found FileHeader = refl
+code-found BatchHeaderB = refl
+code-found BatchHeaderC = refl
+code-found FixedDescription = refl
+code-found OrderingParty = refl
+code-found Transaction = refl
+code-found NamePayer = refl
+code-found CityPayer = refl
+code-found PaymentReference = refl
+code-found Description = refl
+code-found NameBeneficiary = refl
+code-found CityBeneficiary = refl
+code-found BatchTrailer = refl
+code-found FileTrailer = refl
+
+one-of : (k m : Kind) → Of k ≡ Of m → k ≡ m
+one-of k m e = cc
+
+pub one-kind : {c : List ℕ} (k m : Kind) → codeOf c ≡ Of k → c ≡ code m → k ≡ m
+one-kind k m e f = one-of k m (sym e ∙ ap codeOf f ∙ code-found m)
+
+unknown≢of : (k : Kind) → Unknown ≡ Of k → ⊥
+unknown≢of k e = let z : _≡_ {A = ℕ} 0 1 = cc in omega arith
+
+-- one look-up: this kind, or what comes after it
+look : (c : List ℕ) (m k : Kind) (after : Code) → pick (same c (code m)) (Of m) after ≡ Of k → (after ≡ Of k → c ≡ code k) → c ≡ code k
+unfolding pick
+look c m k after e f = by (same c (code m)) refl e
+  where
+    by : (q : Bool) → same c (code m) ≡ q → pick q (Of m) after ≡ Of k → c ≡ code k
+    by true h g = same→eq c (code m) (of-eq _ h) ∙ ap code (one-of m k g)
+    by false h g = f g
+
+pub code-is : (c : List ℕ) (k : Kind) → codeOf c ≡ Of k → c ≡ code k
+unfolding codeOf debitCode batchCode fileCode
+code-is c k e =
+    look c Transaction k _ e
+    (λ e. look c PaymentReference k _ e
+    (λ e. look c Description k _ e
+    (λ e. look c NameBeneficiary k _ e
+    (λ e. look c CityBeneficiary k _ e
+    (λ e. look c NamePayer k _ e
+    (λ e. look c CityPayer k _ e
+    (λ e. look c BatchHeaderB k _ e
+    (λ e. look c BatchHeaderC k _ e
+    (λ e. look c FixedDescription k _ e
+    (λ e. look c OrderingParty k _ e
+    (λ e. look c BatchTrailer k _ e
+    (λ e. look c FileHeader k _ e
+    (λ e. look c FileTrailer k _ e (λ e. absurd (unknown≢of k e)))))))))))))))
+
+-- ## An accepted line
+
+next-line : (s : State) (k : Kind) (x : Fields k) → nextFor s k x .line ≡ s .line + 1
+next-line s FileHeader x = refl
+next-line s BatchHeaderB x = refl
+next-line s BatchHeaderC x = refl
+next-line s FixedDescription x = refl
+next-line s OrderingParty x = refl
+next-line s Transaction x = refl
+next-line s NamePayer x = refl
+next-line s CityPayer x = refl
+next-line s PaymentReference x = refl
+next-line s Description x = refl
+next-line s NameBeneficiary x = refl
+next-line s CityBeneficiary x = refl
+next-line s BatchTrailer x = refl
+next-line s FileTrailer x = refl
+
+-- a record that is read and taken
+abbrev pub takenAs : State → (k : Kind) → Fields k → LineRead
+takenAs s k x = record { answer = 0; line = s .line + 1; column = 0; next = nextFor s k x; read = recordFor k x; text = textFor k x }
+
+pub record Accepted (s : State) (xs : List ℕ) : Type 0 where
+  pub whole : isWhole xs ≡ true
+  pub kind : Kind
+  pub coded : codeOf (take 5 (take 50 xs)) ≡ Of kind
+  pub fields : Faultless 6 (layout kind) (testsFor (s .said) (s .group) (s .batch) kind (fieldsOf kind (take 50 xs))) (take 50 xs)
+  pub step : stepAt s xs ≡ takenAs s kind (fieldsOf kind (take 50 xs))
+
+long : (xs : List ℕ) → isWhole xs ≡ true → 52 ≤ length xs
+unfolding isWhole
+long xs w = leb-true 52 (length xs) (and-first _ _ w)
+
+is-whole : (s : State) (xs : List ℕ) → judgedFirst s xs .number ≡ 0 → isWhole xs ≡ true
+unfolding judgedFirst pick
+is-whole s xs z = by (within s) (isDone s) (isWhole xs) z
+  where
+    by : (a b c : Bool) → pick a (pick b (refused s 0 11) (pick c (judgedLine s (take 50 xs)) (refused s 0 1))) (refused s 0 24) .number ≡ 0 → c ≡ true
+    by true true c z = absurd (omega arith)
+    by true false true z = refl
+    by true false false z = absurd (omega arith)
+    by false b c z = absurd (omega arith)
+
+by-first : (s : State) (xs : List ℕ) (j : Judged) → First s xs j → isWhole xs ≡ true → j .number ≡ 0 → stepAt s xs ≡ readBy (take 50 xs) (j .code) j → Accepted s xs
+unfolding faultOf firstFault
+by-first s xs j (beyond w) h z e = absurd (omega arith)
+by-first s xs j (halted w c n y) h z e = absurd (y z)
+by-first s xs j (moved w k c a f) h z e =
+    let x = fieldsOf k (take 50 xs) in
+    let l : length (take 50 xs) ≡ 50 = length-take-le 50 xs (omega (arith, long xs h)) in
+    let v = line-widths k .1 in
+    record {
+      whole = h;
+      kind = k;
+      coded = c;
+      fields = faultless 6 (layout k) (testsFor (s .said) (s .group) (s .batch) k x) (take 50 xs) (checkRows (maximaFor (s .batch) k x)) (omega arith) (omega arith) (numbered (s .said) (s .group) (s .batch) k x) f;
+      step = e ∙ ap (λ n. record { answer = 0; line = n; column = 0; next = nextFor s k x; read = recordFor k x; text = textFor k x }) (next-line s k x);
+    }
+
+step-answer : (line : List ℕ) (c : Code) (j : Judged) → readBy line c j .answer ≡ j .number
+step-answer line (Of k) j = refl
+step-answer line Unknown j = refl
+
+pub accepts : (s : State) (xs : List ℕ) → 0 < length xs → stepAt s xs .answer ≡ 0 → Accepted s xs
+unfolding stepAt
+accepts s [] h z = absurd (omega arith)
+accepts s (x ∷ xs) h z =
+    let j = judgedFirst s (x ∷ xs) in
+    let n : j .number ≡ 0 = sym (step-answer (take 50 (x ∷ xs)) (j .code) j) ∙ z in
+    by-first s (x ∷ xs) j (first s (x ∷ xs)) (is-whole s (x ∷ xs) n) n refl
+
+-- its 52 bytes by its fields
+module _ {s : State} {xs : List ℕ} (a : Accepted s xs) where
+  pub accepted-long : 52 ≤ length xs
+  accepted-long = long xs (a .whole)
+
+  pub accepted-code : take 5 (take 50 xs) ≡ code (a .kind)
+  accepted-code = code-is (take 5 (take 50 xs)) (a .kind) (a .coded)
+
+  pub accepted-body : take 45 (drop 5 (take 50 xs)) ≡ writeFields (layout (a .kind)) (fieldsOf (a .kind) (take 50 xs))
+  accepted-body = ap (λ n. take n (drop 5 (take 50 xs))) (sym (line-widths (a .kind) .1)) ∙ a .fields .is
+
+  ending : take 2 (drop 50 xs) ≡ lineEnd
+  unfolding isWhole
+  ending =
+      let l = accepted-long in
+      let w = and-second (leb 52 (length xs)) _ (a .whole) in
+      let p : getD xs 50 0 ≡ 13 = eqb-true (getD xs 50 0) 13 (and-first _ _ w) in
+      let q : getD xs 51 0 ≡ 10 = eqb-true (getD xs 51 0) 10 (and-second (eqb (getD xs 50 0) 13) _ w) in
+      ap (take 2) (drop-cons xs 50 0 (omega arith) ∙ ap (λ r. getD xs 50 0 ∷ r) (drop-cons xs 51 0 (omega arith))) ∙ ap₂ (λ y z. y ∷ z ∷ []) p q
+
+  pub accepted-line : take 52 xs ≡ code (a .kind) ++ (writeFields (layout (a .kind)) (fieldsOf (a .kind) (take 50 xs)) ++ lineEnd)
+  accepted-line =
+      let l : length (take 50 xs) ≡ 50 = length-take-le 50 xs (omega (arith, accepted-long)) in
+      let m : length (drop 5 (take 50 xs)) ≡ 45 = rw length-drop (omega arith) in
+      take-add 50 2 xs
+      ∙ ap₂ _++_ (sym (take-append-drop 5 (take 50 xs)) ∙ ap₂ _++_ accepted-code (sym (take-all 45 (drop 5 (take 50 xs)) (omega arith)) ∙ accepted-body)) ending
+      ∙ append-assoc (code (a .kind)) (writeFields (layout (a .kind)) (fieldsOf (a .kind) (take 50 xs))) lineEnd
+
+-- ## A line is judged by its own 52 bytes
+
+pub step-front : (s : State) (xs : List ℕ) → stepAt s (take 52 xs) ≡ stepAt s xs
+unfolding stepAt
+step-front s [] = refl
+step-front s (x ∷ xs) = ap₂ (λ l j. readBy l (j .code) j) (take-take 50 52 (x ∷ xs) (omega arith)) (first-52 s (x ∷ xs))

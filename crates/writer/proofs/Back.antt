@@ -1,0 +1,306 @@
+-- WRITTEN, THEN READ: the same record, the same text, the same next state. Assumes nothing.
+use Prim.Native.Nat.{ℕ, zero, suc, _+_, _-_, _≤_, _<_}
+use mathlib.Core.Path.{_≡_, refl, sym, ap, ap₂, _∙_, subst}
+use mathlib.Core.List.{List, [], _∷_, _++_, append-assoc}
+use mathlib.Core.Bool.{Bool, true, false, not, _&&_, _||_}
+use native.Mathlib.Omega.{arith}
+use borrow.Author.Tests.{ltb-true, le-leb}
+use lib.ListN.{length, getD, take, drop, take-append-drop, length-append, length-drop, length-replicate}
+use lib.Seq.{paste, take-at, drop-at, take-all, take-take, length-take-le}
+use lib.Dec.{T, ltb, leb}
+use Rattle.machine.specs.Lists.{pick, all, same, isDigit, isSpace, spaces}
+use Rattle.machine.specs.Digits.{pow10, decimal, valueOf}
+use Rattle.machine.proofs.Base.{of-eq, append-inj}
+use Rattle.machine.proofs.Digits.{length-decimal, decimal-digits, value-decimal, blank}
+use Rattle.format.specs.Fields.{Field, numeric, filled, optional, free, filler, width, Value, Values, widths, printable, leftJustified, wellFormed, readField, writeField, writeFields, Fit, Fits}
+use Rattle.format.specs.Records.{layout, code, Fields}
+use Rattle.format.specs.Rules.{groupText, groupOf, typeText, typeOf}
+use Rattle.format.specs.declared.Kind.{Kind}
+use Rattle.format.specs.declared.Group.{Group}
+use Rattle.format.specs.declared.Group.the-variants.{Payments, Debits}
+use Rattle.format.specs.declared.TransactionType.{TransactionType}
+use Rattle.format.specs.declared.TransactionType.the-variants.{UncheckedCreditor, UncheckedSalary, Creditor, Salary, Debit, UncheckedDebit}
+use Rattle.format.specs.declared.Code.the-variants.{Of}
+use Rattle.format.proofs.Checks.{field-read}
+use Rattle.format.proofs.Link.{line-widths}
+use Rattle.field.specs.declared.numbers.Digits.{Digits}
+use Rattle.field.specs.Leaf.{digitsOf}
+use Rattle.field.proofs.Numerics.{digits-are}
+use Rattle.record.specs.Faults.{fieldsOf}
+use Rattle.record.specs.Read.{typeOr, recordFor, textFor, noText, padded}
+use Rattle.record.specs.declared.Record.the-variants as read
+use Rattle.reading.specs.Step.{nextFor, stepAt}
+use Rattle.reading.specs.declared.State.{State}
+use Rattle.reading.specs.declared.LineRead.{LineRead}
+use Rattle.writer.specs.Encoding.{unfit, numberIn, textIn, blankIn, Given, Givens, encodeField, encodeFields, lineEnd, encodedLine, testText}
+use Rattle.writer.specs.Entries.{kindOf, givenFor, lineFor}
+use Rattle.writer.specs.Promises.{recordOf}
+use Rattle.writer.specs.declared.Entry.{Entry}
+use Rattle.writer.specs.declared.Entry.the-variants.{FileHeader, BatchHeader, FixedDescription, OrderingParty, Item, NamePayer, PaymentReference, Description, NameBeneficiary, BatchTrailer, FileTrailer}
+use Rattle.writer.proofs.Building.{spaces-split, number-long, text-long, blank-long, group-long, type-long, test-long}
+use Rattle.writer.proofs.Accepting.{Accepted, takenAs, accepts, one-kind, accepted-body}
+
+-- ## What a field carries
+
+-- a width that a field can have
+abbrev Wide : ℕ → Type 0
+Wide w = (0 < w) × (w ≤ 45)
+
+abbrev Sized : (f : Field) → Given f → Type 0
+Sized (numeric w) n = Wide w
+Sized (filled w) t = Wide w × (w ≤ length t)
+Sized (optional w) t = Wide w × (w ≤ length t)
+Sized (free w) t = Wide w × (w ≤ length t)
+Sized (filler w) t = Wide w
+
+abbrev AllSized : (fs : List Field) → Givens fs → Type 0
+AllSized [] g = Unit {0}
+AllSized (f ∷ fs) g = Sized f (g .0) × AllSized fs (g .1)
+
+-- all of what is given
+abbrev Carries : (f : Field) → Given f → Type 0
+Carries (numeric w) n = n < pow10 w
+Carries (filled w) t = T (all isSpace (drop w t))
+Carries (optional w) t = T (all isSpace (drop w t))
+Carries (free w) t = T (all isSpace (drop w t))
+Carries (filler w) t = T (all isSpace t)
+
+abbrev AllCarry : (fs : List Field) → Givens fs → Type 0
+AllCarry [] g = Unit {0}
+AllCarry (f ∷ fs) g = Carries f (g .0) × AllCarry fs (g .1)
+
+abbrev carried : (f : Field) → Given f → Value f
+carried (numeric w) n = n
+carried (filled w) t = take w t
+carried (optional w) t = take w t
+carried (free w) t = take w t
+carried (filler w) t = tt
+
+abbrev allCarried : (fs : List Field) → Givens fs → Values fs
+allCarried [] g = tt
+allCarried (f ∷ fs) g = (carried f (g .0), allCarried fs (g .1))
+
+pub field-long : (f : Field) (g : Given f) → Sized f g → length (encodeField f g) ≡ width f
+field-long (numeric w) n h = number-long w n (h .1)
+field-long (filled w) t h = text-long w t (h .0 .1) (h .1)
+field-long (optional w) t h = text-long w t (h .0 .1) (h .1)
+field-long (free w) t h = text-long w t (h .0 .1) (h .1)
+field-long (filler w) t h = blank-long w t (h .1)
+
+pub fields-long : (fs : List Field) (g : Givens fs) → AllSized fs g → length (encodeFields fs g) ≡ widths fs
+fields-long [] g h = refl
+fields-long (f ∷ fs) g h = length-append (encodeField f (g .0)) (encodeFields fs (g .1)) ∙ ap₂ _+_ (field-long f (g .0) (h .0)) (fields-long fs (g .1) (h .1))
+
+-- no field takes what is unfit
+unfit-printable : (w : ℕ) (b : Bool) → 0 < w → T (all printable (unfit w) && b) → ⊥
+unfit-printable zero b h t = omega arith
+unfit-printable (suc w) b h t = t
+
+unfit-digits : (w : ℕ) → 0 < w → T (all isDigit (unfit w)) → ⊥
+unfit-digits zero h t = omega arith
+unfit-digits (suc w) h t = t
+
+unfit-blank : (w : ℕ) → 0 < w → T (all isSpace (unfit w)) → ⊥
+unfit-blank zero h t = omega arith
+unfit-blank (suc w) h t = t
+
+-- so a field that is well formed carries what was given
+text-back : (w : ℕ) (t : List ℕ) (b : List ℕ → Bool) → 0 < w → T (all printable (textIn w t) && b (textIn w t)) → T (all isSpace (drop w t)) × (textIn w t ≡ take w t)
+unfolding textIn pick
+text-back w t b h = by (all isSpace (drop w t)) refl
+  where
+    by : (q : Bool) → all isSpace (drop w t) ≡ q → T (all printable (pick q (take w t) (unfit w)) && b (pick q (take w t) (unfit w))) → T (all isSpace (drop w t)) × (pick q (take w t) (unfit w) ≡ take w t)
+    by true e k = (of-eq _ e, refl)
+    by false e k = absurd (unfit-printable w (b (unfit w)) h k)
+
+pub and-true : (a : Bool) → T a → T (a && true)
+and-true true t = tt
+and-true false t = t
+
+pub field-back : (f : Field) (g : Given f) → Sized f g → T (wellFormed f (encodeField f g)) → Carries f g × (readField f (encodeField f g) ≡ carried f g)
+unfolding numberIn blankIn pick
+field-back (numeric w) n h = by (ltb n (pow10 w)) refl
+  where
+    by : (q : Bool) → ltb n (pow10 w) ≡ q → T (all isDigit (pick q (decimal w n) (unfit w))) → (n < pow10 w) × (valueOf (pick q (decimal w n) (unfit w)) ≡ n)
+    by true e k = let b = ltb-true n (pow10 w) e in (b, value-decimal w n b)
+    by false e k = absurd (unfit-digits w (h .0) k)
+field-back (filled w) t h = text-back w t leftJustified (h .0 .0)
+field-back (optional w) t h = text-back w t (λ l. all isSpace l || leftJustified l) (h .0 .0)
+field-back (free w) t h = λ k. text-back w t (λ l. true) (h .0 .0) (and-true (all printable (textIn w t)) k)
+field-back (filler w) t h = λ k. (by (all isSpace t) refl k, refl)
+  where
+    by : (q : Bool) → all isSpace t ≡ q → T (all isSpace (pick q (spaces w) (unfit w))) → T (all isSpace t)
+    by true e k = of-eq _ e
+    by false e k = absurd (unfit-blank w (h .0) k)
+
+-- fields that are written as what was given are what was given
+pub fields-back : (fs : List Field) (x : Values fs) (g : Givens fs) → Fits fs x → AllSized fs g → writeFields fs x ≡ encodeFields fs g → (x ≡ allCarried fs g) × AllCarry fs g
+fields-back [] x g f h e = (refl, tt)
+fields-back (f ∷ fs) x g a h e =
+    let r = field-read f (x .0) (a .0) in
+    let i = append-inj (writeField f (x .0)) (writeFields fs (x .1)) (encodeField f (g .0)) (encodeFields fs (g .1)) (r .2 ∙ sym (field-long f (g .0) (h .0))) e in
+    let b = field-back f (g .0) (h .0) (subst (λ l. T (wellFormed f l)) (i .0) (r .0)) in
+    let c : x .0 ≡ carried f (g .0) = sym (r .1) ∙ ap (readField f) (i .0) ∙ b .1 in
+    let d = fields-back fs (x .1) (g .1) (a .1) (h .1) (i .1) in
+    (λ j. (c j, d .0 j), (b .0, d .1))
+
+-- ## What each record gives
+
+sized : (s : State) (t : List ℕ) → length t ≡ 35 → (e : Entry) → AllSized (layout (kindOf e)) (givenFor s t e)
+sized s t h (FileHeader d i c) =
+    let l = number-long 4 i (omega arith) in
+    ((omega arith, omega arith), (((omega arith, omega arith), omega arith), (((omega arith, omega arith), omega arith), (((omega arith, omega arith), omega (arith, l)), ((omega arith, omega arith), ((omega arith, omega arith), tt))))))
+sized s t h (BatchHeader g a q true) =
+    let l = group-long g in
+    (((omega arith, omega arith), omega (arith, l)), ((omega arith, omega arith), ((omega arith, omega arith), (((omega arith, omega arith), omega arith), (((omega arith, omega arith), omega arith), ((omega arith, omega arith), tt))))))
+sized s t h (BatchHeader g a q false) =
+    let l = group-long g in
+    (((omega arith, omega arith), omega (arith, l)), ((omega arith, omega arith), ((omega arith, omega arith), (((omega arith, omega arith), omega arith), ((omega arith, omega arith), ((omega arith, omega arith), tt))))))
+sized s t h FixedDescription = (((omega arith, omega arith), omega arith), ((omega arith, omega arith), tt))
+sized s t h (OrderingParty n d b) =
+    let l = test-long b in
+    ((omega arith, omega arith), ((omega arith, omega arith), (((omega arith, omega arith), omega arith), (((omega arith, omega arith), omega (arith, l)), ((omega arith, omega arith), tt)))))
+sized s t h (Item x) =
+    let l = type-long (x .kind) in
+    (((omega arith, omega arith), omega (arith, l)), ((omega arith, omega arith), ((omega arith, omega arith), ((omega arith, omega arith), ((omega arith, omega arith), tt)))))
+sized s t h NamePayer = (((omega arith, omega arith), omega arith), ((omega arith, omega arith), tt))
+sized s t h PaymentReference = (((omega arith, omega arith), omega arith), ((omega arith, omega arith), tt))
+sized s t h Description = (((omega arith, omega arith), omega arith), ((omega arith, omega arith), tt))
+sized s t h NameBeneficiary = (((omega arith, omega arith), omega arith), ((omega arith, omega arith), tt))
+sized s t h BatchTrailer = ((omega arith, omega arith), ((omega arith, omega arith), ((omega arith, omega arith), ((omega arith, omega arith), tt))))
+sized s t h FileTrailer = ((omega arith, omega arith), tt)
+
+-- ## The record
+
+type-of : (y : TransactionType) → typeOr (typeOf (take 4 (typeText y))) ≡ y
+unfolding typeOf same pick
+type-of UncheckedCreditor = refl
+type-of UncheckedSalary = refl
+type-of Creditor = refl
+type-of Salary = refl
+type-of Debit = refl
+type-of UncheckedDebit = refl
+
+group-of : (g : Group) → groupOf (take 2 (groupText g)) ≡ g
+unfolding same pick
+group-of Payments = refl
+group-of Debits = refl
+
+test-of : (b : Bool) → same (take 1 (testText b)) (84 ∷ []) ≡ b
+unfolding same
+test-of true = refl
+test-of false = refl
+
+decimal-of : (i : ℕ) → i < pow10 4 → digitsOf (take 4 (decimal 4 i)) .value ≡ i
+decimal-of i h =
+    let l : length (decimal 4 i) ≤ 18 = omega (arith, length-decimal 4 i) in
+    let d : all isDigit (decimal 4 i) ≡ true = yes (all isDigit (decimal 4 i)) (decimal-digits 4 i) in
+    ap (λ m. digitsOf m .value) (take-all 4 (decimal 4 i) (omega (arith, length-decimal 4 i)))
+    ∙ sym (ap (λ (r : Digits). r .value) (digits-are (decimal 4 i) l d (sym (value-decimal 4 i h))))
+  where
+    yes : (b : Bool) → T b → b ≡ true
+    yes true t = refl
+    yes false t = absurd t
+
+identification-of : (i : ℕ) → T (all printable (take 4 (numberIn 4 i)) && leftJustified (take 4 (numberIn 4 i))) → digitsOf (take 4 (numberIn 4 i)) .value ≡ i
+unfolding numberIn pick
+identification-of i = by (ltb i (pow10 4)) refl
+  where
+    by : (q : Bool) → ltb i (pow10 4) ≡ q → T (all printable (take 4 (pick q (decimal 4 i) (unfit 4))) && leftJustified (take 4 (pick q (decimal 4 i) (unfit 4)))) → digitsOf (take 4 (pick q (decimal 4 i) (unfit 4))) .value ≡ i
+    by true e t = decimal-of i (ltb-true i (pow10 4) e)
+    by false e t = absurd t
+
+record-back : (s : State) (t : List ℕ) (e : Entry) → Fits (layout (kindOf e)) (allCarried (layout (kindOf e)) (givenFor s t e)) → recordFor (kindOf e) (allCarried (layout (kindOf e)) (givenFor s t e)) ≡ recordOf s e
+record-back s t (FileHeader d i c) f = ap (λ n. read.FileHeader d n c) (identification-of i (f .1 .1 .1 .0 .1))
+record-back s t (BatchHeader g a q true) f = ap (λ y. read.BatchHeader y a q true) (group-of g)
+record-back s t (BatchHeader g a q false) f = ap (λ y. read.BatchHeader y a q false) (group-of g)
+record-back s t FixedDescription f = refl
+record-back s t (OrderingParty n d b) f = ap (λ y. read.OrderingParty n d y) (test-of b)
+record-back s t (Item x) f = ap (λ y. read.Item (record { kind = y; amount = x .amount; payer = x .payer; beneficiary = x .beneficiary })) (type-of (x .kind))
+record-back s t NamePayer f = refl
+record-back s t PaymentReference f = refl
+record-back s t Description f = refl
+record-back s t NameBeneficiary f = refl
+record-back s t BatchTrailer f = refl
+record-back s t FileTrailer f = refl
+
+-- ## The text: all of it
+
+pub padded-is : (w : ℕ) (t : List ℕ) → length t ≡ w → w ≤ 35 → padded t ≡ t ++ spaces (35 - w)
+unfolding padded pick
+padded-is w t h k =
+    let z : 35 ≡ w + (35 - w) = omega arith in
+    let d : drop w (spaces 35) ≡ spaces (35 - w) = ap (λ n. drop w (spaces n)) z ∙ ap (drop w) (spaces-split w (35 - w)) ∙ drop-at (spaces w) (spaces (35 - w)) w (length-replicate w 32) in
+    ap (λ b. pick b (paste noText 0 t (length t)) noText) (le-leb (length t) 35 (omega arith))
+    ∙ ap₂ _++_ (take-all (length t) t (omega arith)) (ap (λ n. drop n noText) (zero-more (length t) ∙ h) ∙ d)
+  where
+    zero-more : (n : ℕ) → 0 + n ≡ n
+    zero-more n = omega arith
+
+text-all : (w : ℕ) (t : List ℕ) → length t ≡ 35 → w ≤ 35 → T (all isSpace (drop w t)) → padded (take w t) ≡ t
+text-all w t h k b =
+    padded-is w (take w t) (length-take-le w t (omega arith)) k
+    ∙ ap (λ r. take w t ++ r) (sym (blank (35 - w) (drop w t) (rw length-drop (omega arith)) b))
+    ∙ take-append-drop w t
+
+text-none : (t : List ℕ) → length t ≡ 35 → T (all isSpace t) → noText ≡ t
+text-none t h b = sym (blank 35 t h b)
+
+text-back-is : (s : State) (t : List ℕ) (e : Entry) → length t ≡ 35 → AllCarry (layout (kindOf e)) (givenFor s t e) → textFor (kindOf e) (allCarried (layout (kindOf e)) (givenFor s t e)) ≡ t
+text-back-is s t (FileHeader d i c) h b = text-all 5 t h (omega arith) (b .1 .1 .0)
+text-back-is s t (BatchHeader g a q true) h b = text-all 16 t h (omega arith) (b .1 .1 .1 .1 .0)
+text-back-is s t (BatchHeader g a q false) h b = text-none t h (b .1 .1 .1 .1 .0)
+text-back-is s t FixedDescription h b = text-all 32 t h (omega arith) (b .0)
+text-back-is s t (OrderingParty n d o) h b = text-all 35 t h (omega arith) (b .1 .1 .0)
+text-back-is s t (Item x) h b = text-none t h (b .1 .1 .1 .1 .0)
+text-back-is s t NamePayer h b = text-all 35 t h (omega arith) (b .0)
+text-back-is s t PaymentReference h b = text-all 16 t h (omega arith) (b .0)
+text-back-is s t Description h b = text-all 32 t h (omega arith) (b .0)
+text-back-is s t NameBeneficiary h b = text-all 35 t h (omega arith) (b .0)
+text-back-is s t BatchTrailer h b = text-none t h (b .1 .1 .1 .0)
+text-back-is s t FileTrailer h b = text-none t h (b .0)
+
+-- ## The line
+
+module _ (s : State) (e : Entry) (t : List ℕ) (h : length t ≡ 35) where
+  body-long : length (encodeFields (layout (kindOf e)) (givenFor s t e)) ≡ 45
+  body-long = fields-long (layout (kindOf e)) (givenFor s t e) (sized s t h e) ∙ line-widths (kindOf e) .1
+
+  fifty-long : length (code (kindOf e) ++ encodeFields (layout (kindOf e)) (givenFor s t e)) ≡ 50
+  fifty-long = length-append (code (kindOf e)) (encodeFields (layout (kindOf e)) (givenFor s t e)) ∙ ap₂ _+_ (line-widths (kindOf e) .0) body-long
+
+  parts : lineFor s e t ≡ (code (kindOf e) ++ encodeFields (layout (kindOf e)) (givenFor s t e)) ++ lineEnd
+  unfolding lineFor encodedLine
+  parts = sym (append-assoc (code (kindOf e)) (encodeFields (layout (kindOf e)) (givenFor s t e)) lineEnd)
+
+  pub line-52 : length (lineFor s e t) ≡ 52
+  line-52 = ap length parts ∙ length-append (code (kindOf e) ++ encodeFields (layout (kindOf e)) (givenFor s t e)) lineEnd ∙ ap (λ n. n + 2) fifty-long
+
+  front : take 50 (lineFor s e t) ≡ code (kindOf e) ++ encodeFields (layout (kindOf e)) (givenFor s t e)
+  front = ap (take 50) parts ∙ take-at (code (kindOf e) ++ encodeFields (layout (kindOf e)) (givenFor s t e)) lineEnd 50 fifty-long
+
+  front-code : take 5 (take 50 (lineFor s e t)) ≡ code (kindOf e)
+  front-code = ap (take 5) front ∙ take-at (code (kindOf e)) (encodeFields (layout (kindOf e)) (givenFor s t e)) 5 (line-widths (kindOf e) .0)
+
+  front-body : take 45 (drop 5 (take 50 (lineFor s e t))) ≡ encodeFields (layout (kindOf e)) (givenFor s t e)
+  front-body =
+      ap (λ l. take 45 (drop 5 l)) front ∙ ap (take 45) (drop-at (code (kindOf e)) (encodeFields (layout (kindOf e)) (givenFor s t e)) 5 (line-widths (kindOf e) .0))
+      ∙ take-all 45 (encodeFields (layout (kindOf e)) (givenFor s t e)) (omega (arith, body-long))
+
+  -- the fields that are read of it are those given
+  of-accepted : (a : Accepted s (lineFor s e t)) → a .kind ≡ kindOf e → stepAt s (lineFor s e t) ≡ record { answer = 0; line = s .line + 1; column = 0; next = nextFor s (kindOf e) (fieldsOf (kindOf e) (take 50 (lineFor s e t))); read = recordOf s e; text = t }
+  of-accepted a q =
+      let x = fieldsOf (kindOf e) (take 50 (lineFor s e t)) in
+      let f : Fits (layout (kindOf e)) x = subst (λ m. Fits (layout m) (fieldsOf m (take 50 (lineFor s e t)))) q (a .fields .fits) in
+      let w : take 45 (drop 5 (take 50 (lineFor s e t))) ≡ writeFields (layout (kindOf e)) x = accepted-body a ∙ ap (λ m. writeFields (layout m) (fieldsOf m (take 50 (lineFor s e t)))) q in
+      let b = fields-back (layout (kindOf e)) x (givenFor s t e) f (sized s t h e) (sym w ∙ front-body) in
+      let r = ap (recordFor (kindOf e)) (b .0) ∙ record-back s t e (subst (Fits (layout (kindOf e))) (b .0) f) in
+      let y = ap (textFor (kindOf e)) (b .0) ∙ text-back-is s t e h (b .1) in
+      a .step ∙ ap (λ m. takenAs s m (fieldsOf m (take 50 (lineFor s e t)))) q
+      ∙ ap₂ (λ i j. record { answer = 0; line = s .line + 1; column = 0; next = nextFor s (kindOf e) x; read = i; text = j }) r y
+
+  pub read-back : stepAt s (lineFor s e t) .answer ≡ 0 → stepAt s (lineFor s e t) ≡ record { answer = 0; line = s .line + 1; column = 0; next = stepAt s (lineFor s e t) .next; read = recordOf s e; text = t }
+  read-back z =
+      let a = accepts s (lineFor s e t) (omega (arith, line-52)) z in
+      let q = of-accepted a (one-kind (a .kind) (kindOf e) (a .coded) front-code) in
+      q ∙ ap (λ n. record { answer = 0; line = s .line + 1; column = 0; next = n; read = recordOf s e; text = t }) (sym (ap (λ (r : LineRead). r .next) q))
