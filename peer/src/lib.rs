@@ -1,0 +1,34 @@
+//! A second, independent reader and writer of CLIEOP03 files.
+//!
+//! It was written from the scope paper alone (01-scope.md), to be compared
+//! file by file with another program. Where the paper left a choice, NOTES.md
+//! says what was chosen and which sentence led there.
+//!
+//! * [`check`] reads a whole file and gives one answer;
+//! * [`State::line`] reads one line and gives the next state;
+//! * [`list`] prints the listing;
+//! * [`item`] hands out one item of one batch;
+//! * [`Writer`] writes one record at a time, [`rewrite`] a whole file again.
+
+#![forbid(unsafe_code)]
+
+mod answer;
+mod check;
+mod fields;
+mod items;
+mod listing;
+mod records;
+mod state;
+mod writer;
+
+pub use answer::{number, Answer};
+pub use check::check;
+pub use fields::{date_exists, eleven_check};
+pub use items::{item, Item, DESCRIPTION_ROOM};
+pub use listing::list;
+pub use records::{
+    Batch, BatchHeader, BatchTrailer, FileHeader, Group, OrderingParty, Record, TestCode,
+    Transaction, TransactionType, Variant,
+};
+pub use state::{LineRead, Place, State, LINE_LENGTH, LONGEST_FILE};
+pub use writer::{rewrite, Entry, Rewritten, Writer, Written};
