@@ -1,4 +1,4 @@
--- The rules of single values (01, 'Field rules'), shared by the language and the reader.
+-- The rules of single values (01, 'Field rules').
 use mathlib.Core.Bool.{Bool, true, false, not, _&&_, _||_}
 use mathlib.Core.List.{List, [], _∷_}
 use Prim.Native.Nat.{ℕ, zero, suc, _+_, _*_, _/_, _%_}
