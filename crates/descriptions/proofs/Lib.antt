@@ -1,0 +1,5 @@
+pub mod Putting
+pub mod Merging
+pub mod Adding
+pub mod Lists
+pub mod Cases

@@ -1,0 +1,17 @@
+use Rattle.descriptions.proofs.Merging.{merges}
+use Rattle.descriptions.proofs.merge.Statement.{statement}
+use Rattle.descriptions.proofs.merge.Tie as tie
+
+pub merge-spec : {M : Type 1} → statement M
+merge-spec =
+    tie.close
+    (tie.spec
+    (λ c κs. search merges)  -- least-of-requires
+    (λ c κs. search merges)  -- least-of-requires-2
+    (λ c. search merges)  -- sub-least-of
+    (λ c κs. search merges)  -- least-of-requires-3
+    (λ c κs. search merges)  -- put-texts-requires
+    (λ c κs. search merges)  -- put-texts-requires-2
+    (λ c. search merges)  -- add-count
+    (λ c. search merges depth 20 fits 10000)  -- returns
+    )
