@@ -2,4 +2,3 @@ pub mod Putting
 pub mod Merging
 pub mod Adding
 pub mod Lists
-pub mod Cases

@@ -29,6 +29,8 @@ worked =
     & (refl & refl) & (refl & refl)
     -- 7
     & refl & refl & refl & refl
+    -- 8, 9
+    & refl & refl & refl
     -- 10
     & refl
     -- 11

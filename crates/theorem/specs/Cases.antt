@@ -1,10 +1,12 @@
--- 01's cases that are proved (1 to 7, 10 and 11), of the definitions that the contracts name, in one table.
+-- 01's cases that are proved (1 to 11), of the definitions that the contracts name, in one table.
 use mathlib.Core.Path.{_≡_}
 use mathlib.Core.Bool.{Bool, true, false}
 use mathlib.Core.List.{List, [], _∷_}
 use mathlib.Core.Option.{none}
 use Prim.Native.Nat.{ℕ, _*_}
 use lib.ListN.{take, drop}
+use Rattle.machine.specs.Lists.{spaces}
+use Rattle.descriptions.specs.Texts.{mergeOf, limitFor}
 use Rattle.format.specs.Rules.{maxAmount, weighted, isEleven, isDate, typeText}
 use Rattle.format.specs.Language.{Rec, tenDigits, batchHeaderRec, batchTrailerRec, lineOf}
 use Rattle.format.specs.Answers.{wrongValue, wrongAccount, differs, aboveMaximum, endsEarly}
@@ -28,6 +30,8 @@ pub data Case : Type 0 where
   line : Group → Batch → Rec → Fault → Case
   -- a batch's account sum, and how its trailer has it, which is accepted
   accountSum : ℕ → List ℕ → Case
+  -- whether an item has a reference, the fixed and its own descriptions, and those handed out
+  merging : Bool → List (List ℕ) → List (List ℕ) → List (List ℕ) → Case
   -- the bytes of a file, and their answer
   file : List ℕ → Answer → Case
 
@@ -49,6 +53,10 @@ header sequence = batchHeaderRec Payments 123456789 sequence none
 abbrev trailer : ℕ → Rec
 trailer accounts = batchTrailerRec 1 (tenDigits accounts) 1
 
+-- a description of 32 characters
+abbrev text : ℕ → List ℕ
+text c = c ∷ spaces 31
+
 -- the 50 characters of a record
 abbrev lineText : Rec → List ℕ
 lineText r = lineOf [] r
@@ -58,6 +66,7 @@ Holds (eleven account weight passes) = (weighted 10 1 account ≡ weight) × (is
 Holds (date day exists) = isDate day ≡ exists
 Holds (line g b r fault) = faultOf true g b (r .0) (lineText r) ≡ fault
 Holds (accountSum accounts text) = (take 10 (drop 23 (lineText (trailer accounts))) ≡ text) × (faultOf true Payments (batch 1 1 1 (tenDigits accounts)) (trailer accounts .0) (lineText (trailer accounts)) ≡ noFault)
+Holds (merging reference fixed own handed) = mergeOf (limitFor reference) fixed own ≡ handed
 Holds (file bytes told) = checkOf bytes ≡ told
 
 abbrev pub Right : List Case → Type 0
@@ -90,6 +99,10 @@ cases =
     ∷ date 290200 true
     ∷ date 290209 false
     ∷ date 310409 false
+    -- 8, 9: the fixed A, B, C, D and the own P, Q, R
+    ∷ merging false (text 65 ∷ text 66 ∷ []) (text 80 ∷ text 81 ∷ text 82 ∷ []) (text 65 ∷ text 66 ∷ text 80 ∷ text 81 ∷ [])
+    ∷ merging true (text 65 ∷ text 66 ∷ []) (text 80 ∷ text 81 ∷ text 82 ∷ []) (text 65 ∷ text 66 ∷ text 80 ∷ [])
+    ∷ merging true (text 65 ∷ text 66 ∷ text 67 ∷ text 68 ∷ []) (text 80 ∷ []) (text 65 ∷ text 66 ∷ text 67 ∷ [])
     -- 10
     ∷ file [] (answer endsEarly 1 0)
     -- 11
