@@ -5,3 +5,4 @@ pub mod Accepting
 pub mod Back
 pub mod Again
 pub mod Keeping
+pub mod Computed

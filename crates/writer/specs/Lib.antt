@@ -2,3 +2,4 @@ pub mod Encoding
 pub mod Entries
 pub mod Writing
 pub mod Promises
+pub mod Cases

@@ -1,0 +1,84 @@
+-- Cases of the writer: what cannot be carried is refused at its column, and the order of the answers.
+use Prim.Native.Nat.{ℕ, _-_}
+use mathlib.Core.Path.{_≡_}
+use mathlib.Core.List.{List, [], _∷_, _++_}
+use mathlib.Core.Bool.{true, false}
+use lib.ListN.{replicate}
+use Rattle.machine.specs.Lists.{spaces}
+use Rattle.format.specs.declared.Group.the-variants.{Payments}
+use Rattle.format.specs.declared.TransactionType.the-variants.{Salary}
+use Rattle.record.specs.declared.Batch.{Batch}
+use Rattle.record.specs.declared.Transaction.{Transaction}
+use Rattle.reading.specs.State.{startState}
+use Rattle.reading.specs.declared.Stage.{Stage}
+use Rattle.reading.specs.declared.Stage.the-variants as stage
+use Rattle.reading.specs.declared.Name.{Name}
+use Rattle.reading.specs.declared.Name.the-variants.{Unwanted, Due}
+use Rattle.reading.specs.declared.State.{State}
+use Rattle.writer.specs.Encoding.{lineEnd}
+use Rattle.writer.specs.Entries.{lineFor}
+use Rattle.writer.specs.Writing.{writtenOf}
+use Rattle.writer.specs.declared.Entry.{Entry}
+use Rattle.writer.specs.declared.Entry.the-variants.{FileHeader, BatchHeader, Item, PaymentReference, NameBeneficiary, BatchTrailer, FileTrailer}
+use Rattle.writer.specs.declared.Written.{Written}
+
+-- a text of so many letters
+abbrev pub letters : ℕ → List ℕ
+letters n = replicate n 65 ++ spaces (35 - n)
+
+-- a batch of group 00 at a stage, after so many lines
+abbrev pub batchAt : ℕ → Stage → Name → State
+batchAt line p name =
+    record {
+      line = line;
+      stage = p;
+      group = Payments;
+      said = true;
+      batch = record { account = 123456789; sequence = 1; items = 1; total = 15000; accounts = 123458023; fixed = 0 };
+      item = record { name = name; reference = false; descriptions = 0 };
+    }
+
+abbrev pub salaryOf : ℕ → Entry
+salaryOf amount = Item (record { kind = Salary; amount = amount; payer = 123456789; beneficiary = 1234 })
+
+abbrev pub told : Written → List ℕ
+told w = w .answer ∷ w .line ∷ w .column ∷ []
+
+-- answer, line and column, with so much room
+abbrev pub Told : State → Entry → List ℕ → ℕ → ℕ → ℕ → ℕ → Type 0
+Told s e t room answer line column = told (writtenOf s e t room) ≡ answer ∷ line ∷ column ∷ []
+
+pub record Cases : Type 0 where
+  pub header : Told startState (FileHeader 150309 1501 1) (letters 5) 52 0 1 0
+  pub no-room : Told startState (FileHeader 150309 1501 1) (letters 5) 51 12 1 0
+  -- 12 only where nothing else applies
+  pub refused-first : Told startState (FileHeader 150309 1501 1) (letters 6) 51 4 1 20
+  -- what a field cannot carry, at its column
+  pub date-too-large : Told startState (FileHeader 1150309 1501 1) (letters 5) 52 4 1 6
+  pub sender-too-long : Told startState (FileHeader 150309 1501 1) (letters 6) 52 4 1 20
+  pub identification-too-large : Told startState (FileHeader 150309 15010 1) (letters 5) 52 4 1 25
+  pub duplicate-too-large : Told startState (FileHeader 150309 1501 10) (letters 5) 52 4 1 29
+  pub furthest-left : Told startState (FileHeader 150309 15010 10) (letters 6) 52 4 1 20
+  pub batch-without-identification : Told (batchAt 5 stage.Closed Unwanted) (BatchHeader Payments 123456789 2 false) (letters 0) 52 0 6 0
+  pub batch-with-identification : Told (batchAt 5 stage.Closed Unwanted) (BatchHeader Payments 123456789 2 true) (letters 16) 52 0 6 0
+  pub identification-in-b : Told (batchAt 5 stage.Closed Unwanted) (BatchHeader Payments 123456789 2 false) (letters 16) 52 4 6 25
+  pub identification-too-long : Told (batchAt 5 stage.Closed Unwanted) (BatchHeader Payments 123456789 2 true) (letters 17) 52 4 6 25
+  pub account-too-large : Told (batchAt 5 stage.Closed Unwanted) (BatchHeader Payments 12345678900 2 false) (letters 0) 52 4 6 8
+  pub sequence-too-large : Told (batchAt 5 stage.Closed Unwanted) (BatchHeader Payments 123456789 10000 false) (letters 0) 52 4 6 18
+  pub item : Told (batchAt 3 stage.Ordered Unwanted) (salaryOf 15000) (letters 0) 52 0 4 0
+  pub item-with-text : Told (batchAt 3 stage.Ordered Unwanted) (salaryOf 15000) (letters 1) 52 4 4 42
+  pub amount-too-large : Told (batchAt 3 stage.Ordered Unwanted) (salaryOf 1000000000000) (letters 0) 52 4 4 10
+  pub reference-too-long : Told (batchAt 4 stage.Item Unwanted) PaymentReference (letters 17) 52 4 5 6
+  pub name-of-35 : Told (batchAt 4 stage.Item Due) NameBeneficiary (letters 35) 52 0 5 0
+  pub batch-trailer : Told (batchAt 4 stage.Item Unwanted) BatchTrailer (letters 0) 52 0 5 0
+  pub batch-trailer-with-text : Told (batchAt 4 stage.Item Unwanted) BatchTrailer (letters 1) 52 4 5 41
+  pub file-trailer : Told (batchAt 5 stage.Closed Unwanted) FileTrailer (letters 0) 52 0 6 0
+  pub file-trailer-with-text : Told (batchAt 5 stage.Closed Unwanted) FileTrailer (letters 35) 52 4 6 6
+  -- the reader's other answers
+  pub name-lacking : Told (batchAt 4 stage.Item Due) BatchTrailer (letters 0) 52 3 5 1
+  pub too-much : Told (batchAt 3 stage.Ordered Unwanted) (salaryOf 45378021609) (letters 0) 52 5 4 10
+  pub after-trailer : Told (batchAt 6 stage.Done Unwanted) FileTrailer (letters 35) 0 11 7 0
+  pub beyond-limits : Told (batchAt 7000000000 stage.Closed Unwanted) FileTrailer (letters 0) 52 24 0 0
+  -- the bytes of a line: 0001A150309CLIEOP03AAAAA15011, and the trailer's numbers from the state
+  pub header-bytes : lineFor startState (FileHeader 150309 1501 1) (letters 5) ≡ 48 ∷ 48 ∷ 48 ∷ 49 ∷ 65 ∷ 49 ∷ 53 ∷ 48 ∷ 51 ∷ 48 ∷ 57 ∷ 67 ∷ 76 ∷ 73 ∷ 69 ∷ 79 ∷ 80 ∷ 48 ∷ 51 ∷ 65 ∷ 65 ∷ 65 ∷ 65 ∷ 65 ∷ 49 ∷ 53 ∷ 48 ∷ 49 ∷ 49 ∷ (spaces 21 ++ lineEnd)
+  pub trailer-bytes : lineFor (batchAt 4 stage.Item Unwanted) BatchTrailer (letters 0) ≡ 57 ∷ 57 ∷ 57 ∷ 48 ∷ 65 ∷ 48 ∷ 48 ∷ 48 ∷ 48 ∷ 48 ∷ 48 ∷ 48 ∷ 48 ∷ 48 ∷ 48 ∷ 48 ∷ 48 ∷ 48 ∷ 49 ∷ 53 ∷ 48 ∷ 48 ∷ 48 ∷ 48 ∷ 49 ∷ 50 ∷ 51 ∷ 52 ∷ 53 ∷ 56 ∷ 48 ∷ 50 ∷ 51 ∷ 48 ∷ 48 ∷ 48 ∷ 48 ∷ 48 ∷ 48 ∷ 49 ∷ (spaces 10 ++ lineEnd)
