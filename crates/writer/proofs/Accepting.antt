@@ -1,17 +1,17 @@
 -- A line that is accepted: its kind, and that it is its fields as the table writes them. Assumes nothing.
-use Prim.Native.Nat.{ℕ, zero, suc, _+_, _-_, _≤_, _<_}
+use Prim.Native.Nat.{ℕ, _+_, _-_, _≤_, _<_}
 use mathlib.Core.Path.{_≡_, refl, sym, ap, ap₂, _∙_, subst}
 use mathlib.Core.List.{List, [], _∷_, _++_, append-assoc}
-use mathlib.Core.Bool.{Bool, true, false, not, _&&_}
+use mathlib.Core.Bool.{Bool, true, false, not}
 use mathlib.Core.Option.{Option, none, some}
 use native.Mathlib.Omega.{arith}
 use borrow.Author.Tests.{leb-true, eqb-true, eq-eqb}
-use lib.ListN.{length, getD, take, drop, take-append-drop, length-take, length-drop}
-use lib.Seq.{take-at, take-all, take-add, take-take, drop-cons, drop-drop, length-take-le}
+use lib.ListN.{length, getD, take, drop, take-append-drop, length-drop}
+use lib.Seq.{take-all, take-add, take-take, drop-cons, drop-drop, length-take-le}
 use lib.Dec.{T, eqb, leb}
 use Rattle.machine.specs.Lists.{pick, same}
 use Rattle.machine.proofs.Base.{of-eq, same→eq}
-use Rattle.format.specs.Fields.{Field, width, Values, widths, wellFormed, readField, writeField, writeFields, Fit, Fits}
+use Rattle.format.specs.Fields.{Field, width, widths, wellFormed, writeFields, Fits}
 use Rattle.format.specs.Records.{layout, code, Fields}
 use Rattle.format.specs.Tests.{Test, test, Tests, groupTests}
 use Rattle.format.specs.declared.Kind.{Kind}
@@ -29,7 +29,7 @@ use Rattle.record.specs.Read.{recordFor, textFor}
 use Rattle.record.specs.declared.Batch.{Batch}
 use Rattle.record.specs.declared.Fault.{Fault}
 use Rattle.reading.specs.State.{within}
-use Rattle.reading.specs.Step.{nextFor, refused, judgedLine, isWhole, isDone, judgedFirst, readBy, nothingRead, stepAt}
+use Rattle.reading.specs.Step.{nextFor, refused, judgedLine, isWhole, isDone, judgedFirst, readBy, stepAt}
 use Rattle.reading.specs.declared.State.{State}
 use Rattle.reading.specs.declared.Judged.{Judged}
 use Rattle.reading.specs.declared.LineRead.{LineRead}
@@ -225,17 +225,21 @@ by-first s xs j (moved w k c a f) h z e =
       step = e ∙ ap (λ n. record { answer = 0; line = n; column = 0; next = nextFor s k x; read = recordFor k x; text = textFor k x }) (next-line s k x);
     }
 
-step-answer : (line : List ℕ) (c : Code) (j : Judged) → readBy line c j .answer ≡ j .number
+pub step-answer : (line : List ℕ) (c : Code) (j : Judged) → readBy line c j .answer ≡ j .number
 step-answer line (Of k) j = refl
 step-answer line Unknown j = refl
 
-pub accepts : (s : State) (xs : List ℕ) → 0 < length xs → stepAt s xs .answer ≡ 0 → Accepted s xs
+pub step-first : (s : State) (xs : List ℕ) → 0 < length xs → stepAt s xs ≡ readBy (take 50 xs) (judgedFirst s xs .code) (judgedFirst s xs)
 unfolding stepAt
-accepts s [] h z = absurd (omega arith)
-accepts s (x ∷ xs) h z =
-    let j = judgedFirst s (x ∷ xs) in
-    let n : j .number ≡ 0 = sym (step-answer (take 50 (x ∷ xs)) (j .code) j) ∙ z in
-    by-first s (x ∷ xs) j (first s (x ∷ xs)) (is-whole s (x ∷ xs) n) n refl
+step-first s [] h = absurd (omega arith)
+step-first s (x ∷ xs) h = refl
+
+pub accepts : (s : State) (xs : List ℕ) → 0 < length xs → stepAt s xs .answer ≡ 0 → Accepted s xs
+accepts s xs h z =
+    let j = judgedFirst s xs in
+    let e = step-first s xs h in
+    let n : j .number ≡ 0 = sym (ap (λ (r : LineRead). r .answer) e ∙ step-answer (take 50 xs) (j .code) j) ∙ z in
+    by-first s xs j (first s xs) (is-whole s xs n) n e
 
 -- its 52 bytes by its fields
 module _ {s : State} {xs : List ℕ} (a : Accepted s xs) where

@@ -1,19 +1,19 @@
 -- READ, THEN WRITTEN: an accepted line that is no city is what is written of its record and text. Assumes nothing.
-use Prim.Native.Nat.{ℕ, zero, suc, _+_, _-_, _≤_, _<_}
-use mathlib.Core.Path.{_≡_, refl, sym, ap, ap₂, _∙_, subst}
+use Prim.Native.Nat.{ℕ, _+_, _-_, _≤_, _<_}
+use mathlib.Core.Path.{_≡_, refl, sym, ap, ap₂, _∙_}
 use mathlib.Core.List.{List, [], _∷_, _++_}
-use mathlib.Core.Bool.{Bool, true, false, not, _&&_, _||_}
-use mathlib.Core.Option.{Option, none, some}
+use mathlib.Core.Bool.{Bool, true, false, not, _||_}
+use mathlib.Core.Option.{none, some}
 use native.Mathlib.Omega.{arith}
-use borrow.Author.Tests.{le-leb, lt-ltb, eqb-true}
-use lib.ListN.{length, take, drop, length-replicate}
+use borrow.Author.Tests.{lt-ltb}
+use lib.ListN.{length, take, drop}
 use lib.Seq.{take-at, drop-at}
-use lib.Dec.{T, ltb, eqb, leb, eqb→eq}
+use lib.Dec.{T, eqb, eqb→eq}
 use Rattle.machine.specs.Lists.{pick, all, same, isDigit, isSpace, spaces}
 use Rattle.machine.specs.Digits.{pow10, decimal, valueOf}
 use Rattle.machine.proofs.Base.{and-l, of-eq, same→eq}
 use Rattle.machine.proofs.Digits.{spaces-blank}
-use Rattle.format.specs.Fields.{Field, numeric, Values, writeField, writeFields, Fit, Fits}
+use Rattle.format.specs.Fields.{Field, numeric, Values, writeField, writeFields, Fits}
 use Rattle.format.specs.Records.{layout, code, Fields, creationDate, fileName, sender, identification, duplicateCode, group, orderingAccount, sequence, currency, batchIdentification, nameCode, desiredDate, partyName, testCode, type, amount, payer, beneficiary, totalAmount, totalAccounts, items}
 use Rattle.format.specs.Rules.{CLIEOP03, EUR, isTestCode, isIdentification, groupText, isGroup, groupOf, typeText, typeOf, isType}
 use Rattle.format.specs.declared.Kind.{Kind}
@@ -38,7 +38,7 @@ use Rattle.writer.specs.declared.Entry.{Entry}
 use Rattle.writer.specs.declared.Entry.the-variants.{FileHeader, BatchHeader, FixedDescription, OrderingParty, Item, NamePayer, PaymentReference, Description, NameBeneficiary, BatchTrailer, FileTrailer}
 use Rattle.writer.proofs.Building.{exact}
 use Rattle.writer.proofs.Accepting.{Accepted, accepts, accepted-line}
-use Rattle.writer.proofs.Back.{padded-is}
+use Rattle.writer.proofs.Back.{yes, padded-is}
 
 -- ## Fields
 
@@ -66,10 +66,6 @@ text-in w t h k =
     let d : drop w (padded t) ≡ spaces (35 - w) = ap (drop w) p ∙ drop-at t (spaces (35 - w)) w h in
     let b : all isSpace (drop w (padded t)) ≡ true = ap (all isSpace) d ∙ yes (all isSpace (spaces (35 - w))) (spaces-blank (35 - w)) in
     ap (λ q. pick q (take w (padded t)) (unfit w)) b ∙ ap (take w) p ∙ take-at t (spaces (35 - w)) w h
-  where
-    yes : (b : Bool) → T b → b ≡ true
-    yes true t = refl
-    yes false t = absurd t
 
 -- a text that is the one asked for
 same-text : (w : ℕ) (t u : List ℕ) → length t ≡ w → T (same t u) → textIn w u ≡ t
@@ -93,10 +89,6 @@ identification-again t h k =
     let v : digitsOf t .value ≡ valueOf t = sym (ap (λ (y : Digits). y .value) (digits-are t (omega arith) (yes (all isDigit t) d) refl)) in
     let n : numberIn 4 (digitsOf t .value) ≡ t = ap (numberIn 4) v ∙ number-in 4 (valueOf t) (r .0) ∙ sym (r .1) in
     ap (textIn 4) n ∙ exact 4 t h
-  where
-    yes : (b : Bool) → T b → b ≡ true
-    yes true t = refl
-    yes false t = absurd t
 
 group-again : (t : List ℕ) → length t ≡ 2 → T (isGroup t) → textIn 2 (groupText (groupOf t)) ≡ t
 unfolding pick

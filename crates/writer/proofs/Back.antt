@@ -2,25 +2,23 @@
 use Prim.Native.Nat.{ℕ, zero, suc, _+_, _-_, _≤_, _<_}
 use mathlib.Core.Path.{_≡_, refl, sym, ap, ap₂, _∙_, subst}
 use mathlib.Core.List.{List, [], _∷_, _++_, append-assoc}
-use mathlib.Core.Bool.{Bool, true, false, not, _&&_, _||_}
+use mathlib.Core.Bool.{Bool, true, false, _&&_, _||_}
 use native.Mathlib.Omega.{arith}
 use borrow.Author.Tests.{ltb-true, le-leb}
-use lib.ListN.{length, getD, take, drop, take-append-drop, length-append, length-drop, length-replicate}
-use lib.Seq.{paste, take-at, drop-at, take-all, take-take, length-take-le}
-use lib.Dec.{T, ltb, leb}
+use lib.ListN.{length, take, drop, take-append-drop, length-append, length-drop, length-replicate}
+use lib.Seq.{paste, take-at, drop-at, take-all, length-take-le}
+use lib.Dec.{T, ltb}
 use Rattle.machine.specs.Lists.{pick, all, same, isDigit, isSpace, spaces}
 use Rattle.machine.specs.Digits.{pow10, decimal, valueOf}
 use Rattle.machine.proofs.Base.{of-eq, append-inj}
 use Rattle.machine.proofs.Digits.{length-decimal, decimal-digits, value-decimal, blank}
-use Rattle.format.specs.Fields.{Field, numeric, filled, optional, free, filler, width, Value, Values, widths, printable, leftJustified, wellFormed, readField, writeField, writeFields, Fit, Fits}
-use Rattle.format.specs.Records.{layout, code, Fields}
+use Rattle.format.specs.Fields.{Field, numeric, filled, optional, free, filler, width, Value, Values, widths, printable, leftJustified, wellFormed, readField, writeField, writeFields, Fits}
+use Rattle.format.specs.Records.{layout, code}
 use Rattle.format.specs.Rules.{groupText, groupOf, typeText, typeOf}
-use Rattle.format.specs.declared.Kind.{Kind}
 use Rattle.format.specs.declared.Group.{Group}
 use Rattle.format.specs.declared.Group.the-variants.{Payments, Debits}
 use Rattle.format.specs.declared.TransactionType.{TransactionType}
 use Rattle.format.specs.declared.TransactionType.the-variants.{UncheckedCreditor, UncheckedSalary, Creditor, Salary, Debit, UncheckedDebit}
-use Rattle.format.specs.declared.Code.the-variants.{Of}
 use Rattle.format.proofs.Checks.{field-read}
 use Rattle.format.proofs.Link.{line-widths}
 use Rattle.field.specs.declared.numbers.Digits.{Digits}
@@ -43,17 +41,17 @@ use Rattle.writer.proofs.Accepting.{Accepted, takenAs, accepts, one-kin
 -- ## What a field carries
 
 -- a width that a field can have
-abbrev Wide : ℕ → Type 0
+abbrev pub Wide : ℕ → Type 0
 Wide w = (0 < w) × (w ≤ 45)
 
-abbrev Sized : (f : Field) → Given f → Type 0
+abbrev pub Sized : (f : Field) → Given f → Type 0
 Sized (numeric w) n = Wide w
 Sized (filled w) t = Wide w × (w ≤ length t)
 Sized (optional w) t = Wide w × (w ≤ length t)
 Sized (free w) t = Wide w × (w ≤ length t)
 Sized (filler w) t = Wide w
 
-abbrev AllSized : (fs : List Field) → Givens fs → Type 0
+abbrev pub AllSized : (fs : List Field) → Givens fs → Type 0
 AllSized [] g = Unit {0}
 AllSized (f ∷ fs) g = Sized f (g .0) × AllSized fs (g .1)
 
@@ -113,7 +111,7 @@ text-back w t b h = by (all isSpace (drop w t)) refl
     by true e k = (of-eq _ e, refl)
     by false e k = absurd (unfit-printable w (b (unfit w)) h k)
 
-pub and-true : (a : Bool) → T a → T (a && true)
+and-true : (a : Bool) → T a → T (a && true)
 and-true true t = tt
 and-true false t = t
 
@@ -146,7 +144,7 @@ fields-back (f ∷ fs) x g a h e =
 
 -- ## What each record gives
 
-sized : (s : State) (t : List ℕ) → length t ≡ 35 → (e : Entry) → AllSized (layout (kindOf e)) (givenFor s t e)
+pub sized : (s : State) (t : List ℕ) → length t ≡ 35 → (e : Entry) → AllSized (layout (kindOf e)) (givenFor s t e)
 sized s t h (FileHeader d i c) =
     let l = number-long 4 i (omega arith) in
     ((omega arith, omega arith), (((omega arith, omega arith), omega arith), (((omega arith, omega arith), omega arith), (((omega arith, omega arith), omega (arith, l)), ((omega arith, omega arith), ((omega arith, omega arith), tt))))))
@@ -191,16 +189,16 @@ unfolding same
 test-of true = refl
 test-of false = refl
 
+pub yes : (b : Bool) → T b → b ≡ true
+yes true t = refl
+yes false t = absurd t
+
 decimal-of : (i : ℕ) → i < pow10 4 → digitsOf (take 4 (decimal 4 i)) .value ≡ i
 decimal-of i h =
     let l : length (decimal 4 i) ≤ 18 = omega (arith, length-decimal 4 i) in
     let d : all isDigit (decimal 4 i) ≡ true = yes (all isDigit (decimal 4 i)) (decimal-digits 4 i) in
     ap (λ m. digitsOf m .value) (take-all 4 (decimal 4 i) (omega (arith, length-decimal 4 i)))
     ∙ sym (ap (λ (r : Digits). r .value) (digits-are (decimal 4 i) l d (sym (value-decimal 4 i h))))
-  where
-    yes : (b : Bool) → T b → b ≡ true
-    yes true t = refl
-    yes false t = absurd t
 
 identification-of : (i : ℕ) → T (all printable (take 4 (numberIn 4 i)) && leftJustified (take 4 (numberIn 4 i))) → digitsOf (take 4 (numberIn 4 i)) .value ≡ i
 unfolding numberIn pick
@@ -279,10 +277,10 @@ module _ (s : State) (e : Entry) (t : List ℕ) (h : length t ≡ 35) where
   front : take 50 (lineFor s e t) ≡ code (kindOf e) ++ encodeFields (layout (kindOf e)) (givenFor s t e)
   front = ap (take 50) parts ∙ take-at (code (kindOf e) ++ encodeFields (layout (kindOf e)) (givenFor s t e)) lineEnd 50 fifty-long
 
-  front-code : take 5 (take 50 (lineFor s e t)) ≡ code (kindOf e)
+  pub front-code : take 5 (take 50 (lineFor s e t)) ≡ code (kindOf e)
   front-code = ap (take 5) front ∙ take-at (code (kindOf e)) (encodeFields (layout (kindOf e)) (givenFor s t e)) 5 (line-widths (kindOf e) .0)
 
-  front-body : take 45 (drop 5 (take 50 (lineFor s e t))) ≡ encodeFields (layout (kindOf e)) (givenFor s t e)
+  pub front-body : take 45 (drop 5 (take 50 (lineFor s e t))) ≡ encodeFields (layout (kindOf e)) (givenFor s t e)
   front-body =
       ap (λ l. take 45 (drop 5 l)) front ∙ ap (take 45) (drop-at (code (kindOf e)) (encodeFields (layout (kindOf e)) (givenFor s t e)) 5 (line-widths (kindOf e) .0))
       ∙ take-all 45 (encodeFields (layout (kindOf e)) (givenFor s t e)) (omega (arith, body-long))

@@ -1,5 +1,5 @@
 -- A line, field after field. Assumes nothing.
-use Prim.Native.Nat.{ℕ, zero, suc, _+_, _-_, _≤_, _<_}
+use Prim.Native.Nat.{ℕ, zero, suc, _+_, _-_, _≤_}
 use mathlib.Core.Path.{_≡_, refl, sym, _∙_, ap, ap₂, subst}
 use mathlib.Core.List.{List, [], _∷_, _++_, append-assoc, append-nil}
 use mathlib.Core.Bool.{Bool, true, false}
@@ -22,7 +22,7 @@ use Rattle.format.specs.declared.Kind.the-variants as kinds
 use Rattle.record.specs.declared.Transaction.{Transaction}
 use Rattle.reading.specs.declared.State.{State}
 use Rattle.writer.specs.Encoding.{splice, unfit, numberIn, textIn, blankIn, lineEnd, encodedLine, testText}
-use Rattle.writer.specs.Entries.{fileHeaderGiven, batchHeaderGiven, headerStart, batchHeaderLine, orderingPartyGiven, itemGiven, batchTrailerGiven, kindOf, givenFor, lineFor}
+use Rattle.writer.specs.Entries.{fileHeaderGiven, headerStart, batchHeaderLine, orderingPartyGiven, itemGiven, batchTrailerGiven, kindOf, givenFor, lineFor}
 use Rattle.writer.specs.declared.Entry.{Entry}
 use Rattle.writer.specs.declared.Entry.the-variants.{BatchHeader}
 use Rattle.writer.proofs.Putting.{splice-is}

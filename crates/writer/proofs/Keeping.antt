@@ -1,11 +1,11 @@
 -- The writer's promises, from its answer and the room after it. Assumes nothing.
-use Prim.Native.Nat.{ℕ, _+_, _≤_, _<_}
+use Prim.Native.Nat.{ℕ, _+_, _<_}
 use mathlib.Core.Path.{_≡_, refl, sym, ap, ap₂, _∙_, subst}
 use mathlib.Core.List.{List, [], _∷_, _++_}
 use mathlib.Core.Bool.{Bool, true, false}
 use mathlib.Core.Option.{some}
 use native.Mathlib.Omega.{arith}
-use borrow.Author.Tests.{eq-eqb, eqb-true, leb-true, le-leb}
+use borrow.Author.Tests.{eq-eqb, eqb-true, le-leb}
 use lib.ListN.{length, take, drop}
 use lib.Seq.{take-at}
 use lib.Dec.{T, eqb, leb}
@@ -14,8 +14,6 @@ use Rattle.reading.specs.State.{within}
 use Rattle.reading.specs.Step.{isDone, nothingRead, endedAt, stepAt}
 use Rattle.reading.specs.declared.State.{State}
 use Rattle.reading.specs.declared.LineRead.{LineRead}
-use Rattle.record.specs.declared.Record.{Record}
-use Rattle.record.specs.declared.Record.the-variants.{Nothing}
 use Rattle.writer.specs.Entries.{lineFor}
 use Rattle.writer.specs.Writing.{answered, writtenBy, roomBy, writtenOf, roomOf}
 use Rattle.writer.specs.Promises.{recordOf, entryOf, ReadAsWritten, WrittenAsRead, ReadsBack, WritesAgain}

@@ -6,3 +6,4 @@ pub mod Back
 pub mod Again
 pub mod Keeping
 pub mod Computed
+pub mod Refusing

@@ -1,14 +1,20 @@
--- WHAT THE WRITER PROMISES: what is written is what the reader reads, and what was read is written again as the same line.
+-- WHAT THE WRITER PROMISES: what is written is what the reader reads, what was read is written again as the same line, and what a field cannot carry is refused there.
 use Prim.Native.Nat.{ℕ, _+_, _≤_}
 use mathlib.Core.Path.{_≡_}
-use mathlib.Core.List.{List, _++_}
+use mathlib.Core.Logic.{_≢_}
+use mathlib.Core.List.{List, [], _∷_, _++_}
 use mathlib.Core.Option.{Option, none, some}
-use lib.ListN.{length, take}
-use Rattle.format.specs.Answers.{accepted}
+use lib.ListN.{take}
+use Rattle.machine.specs.Lists.{pick, same}
+use Rattle.format.specs.Fields.{Field, width}
+use Rattle.format.specs.Records.{layout}
+use Rattle.format.specs.Answers.{accepted, wrongForm}
 use Rattle.record.specs.declared.Record.{Record}
 use Rattle.record.specs.declared.Record.the-variants as read
 use Rattle.reading.specs.Step.{stepAt}
 use Rattle.reading.specs.declared.State.{State}
+use Rattle.writer.specs.Encoding.{unfit, Givens, encodeField}
+use Rattle.writer.specs.Entries.{kindOf, givenFor}
 use Rattle.writer.specs.Writing.{answered}
 use Rattle.writer.specs.declared.Entry.{Entry}
 use Rattle.writer.specs.declared.Entry.the-variants.{FileHeader, BatchHeader, FixedDescription, OrderingParty, Item, NamePayer, PaymentReference, Description, NameBeneficiary, BatchTrailer, FileTrailer}
@@ -63,3 +69,20 @@ ReadsBack s e t w out = w .answer ≡ accepted → ReadAsWritten s e t w out
 unfoldable pub WritesAgain : State → Entry → List ℕ → ℕ → Written → List ℕ → Type 0
 WritesAgain s e t room w out =
     52 ≤ room → (xs : List ℕ) → stepAt s xs .answer ≡ accepted → entryOf (stepAt s xs .read) ≡ some e → stepAt s xs .text ≡ t → WrittenAsRead s xs w out
+
+-- the column of the first field that cannot carry what is given for it, 0 where each can
+abbrev pub unfitFrom : ℕ → (fs : List Field) → Givens fs → ℕ
+unfitFrom c [] x = 0
+unfitFrom c (f ∷ fs) x = pick (same (encodeField f (x .0)) (unfit (width f))) c (unfitFrom (c + width f) fs (x .1))
+
+abbrev pub unfitColumn : State → Entry → List ℕ → ℕ
+unfitColumn s e t = unfitFrom 6 (layout (kindOf e)) (givenFor s t e)
+
+pub record RefusedBy (column : ℕ) (w : Written) : Type 0 where
+  pub refused : w .answer ≢ accepted
+  pub no-further : w .column ≤ column
+  pub form-there : w .column ≡ column → w .answer ≡ wrongForm
+
+-- WHAT A FIELD CANNOT CARRY IS REFUSED: 4 at its column, where nothing else is wrong before it
+unfoldable pub RefusesUnfit : State → Entry → List ℕ → Written → Type 0
+RefusesUnfit s e t w = unfitColumn s e t ≢ 0 → RefusedBy (unfitColumn s e t) w

@@ -4,7 +4,7 @@ ghost use mathlib.Core.List.{_++_};
 ghost use Prim.Native.Nat.{_≤_};
 ghost use lib.ListN.{length, drop};
 ghost use Rattle.reading.specs.Step.{stepAt};
-ghost use Rattle.writer.specs.Promises.{ReadsBack, WritesAgain};
+ghost use Rattle.writer.specs.Promises.{ReadsBack, WritesAgain, RefusesUnfit};
 ghost use Rattle.writer.specs.Writing.{writtenBy, roomBy, writtenOf, roomOf};
 use format::Group;
 use lines::entry_line;
@@ -103,6 +103,7 @@ pub fn write(state: State, entry: Entry, text: [u8; 35], out: &mut [u8]) -> Writ
     ensures bytes { λ _. ⌜ now (out .exit) ≡ roomOf state entry text (now (out .entry)) ⌝ }
     ensures read_back { λ w. ⌜ ReadsBack state entry text w (now (out .exit)) ⌝ }
     ensures written_again { λ w. ⌜ WritesAgain state entry text (length (now (out .entry))) w (now (out .exit)) ⌝ }
+    ensures unfit { λ w. ⌜ RefusesUnfit state entry text w ⌝ }
 {
     write_line(state, entry_line(state, entry, text), out)
 }
