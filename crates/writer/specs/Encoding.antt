@@ -1,5 +1,5 @@
 -- What is given for the fields of a record, as the 52 bytes of its line: by the format's table, with what a field cannot carry written so that no reader takes it.
-use Prim.Native.Nat.{ℕ, _+_, _-_}
+use Prim.Native.Nat.{ℕ}
 use mathlib.Core.List.{List, [], _∷_, _++_}
 use mathlib.Core.Bool.{Bool, true, false}
 use lib.ListN.{length, take, drop}
@@ -9,10 +9,6 @@ use Rattle.machine.specs.Lists.{pick, all, isSpace, spaces}
 use Rattle.machine.specs.Digits.{pow10, decimal}
 use Rattle.format.specs.Fields.{Field, numeric, filled, optional, free, filler}
 use Rattle.format.specs.Language.{crlf, endBytes}
-
--- t in the place of what stands from `at` on
-unfoldable pub splice : List ℕ → ℕ → List ℕ → List ℕ
-splice d at t = paste d at t (length t)
 
 -- a byte that no field takes, and spaces
 abbrev pub unfit : ℕ → List ℕ
@@ -65,3 +61,7 @@ encodedLine code fs x = code ++ (encodeFields fs x ++ lineEnd)
 abbrev pub testText : Bool → List ℕ
 testText true = 84 ∷ []
 testText false = 80 ∷ []
+
+-- (for functions that are not public) t in the place of what stands from `at` on
+unfoldable pub splice : List ℕ → ℕ → List ℕ → List ℕ
+splice d at t = paste d at t (length t)
