@@ -1,0 +1,30 @@
+use borrow.Author.Needs.{needs}
+use Prim.Native.Nat.{_-_}
+use lib.ListN.{length}
+use Rattle.rewriting.proofs.Copying.{copies, copy-sum, Copying}
+use Rattle.rewriting.proofs.copy.Statement.{statement}
+use Rattle.rewriting.proofs.copy.Tie as tie
+
+abbrev Inv-loop : tie.InvT-loop
+Inv-loop file out₀ at₀ i₀ out at i = Copying file out₀ out at i
+
+abbrev μ-loop : tie.MeasureT-loop
+μ-loop file out₀ at₀ i₀ out at i = length file - i
+
+pub copy-spec : {M : Type 1} → statement M
+copy-spec =
+    tie.close
+    (tie.spec
+    Inv-loop
+    μ-loop
+    (λ c. search copies depth 20 fits 10000)  -- loop-holds
+    (λ c κs. search needs)  -- part-requires
+    (λ c κs. search needs)  -- kept-requires
+    (λ c κs. search copies depth 20 fits 10000)  -- place-requires
+    (λ c. search (copy-sum (c .before .before .before .before .before .before .before .loop .inv) (c .before .before .before .before .before .before .loop-test .taken) (c .before .before .before .before .before .part .ensures) (c .before .before .before .before .kept .ensures), needs))  -- add-at
+    (λ c. search needs)  -- add-i
+    (λ c. search needs)  -- loop-less
+    (λ c. search copies depth 20 fits 10000)  -- loop-again
+    (λ c. search copies depth 20 fits 10000)  -- same-length
+    (λ c. search copies depth 20 fits 10000)  -- returns
+    )

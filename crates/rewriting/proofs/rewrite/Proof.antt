@@ -1,0 +1,17 @@
+use borrow.Author.Needs.{needs}
+use Rattle.rewriting.proofs.Copying.{rooms, copy-asked}
+use Rattle.rewriting.proofs.rewrite.Statement.{statement}
+use Rattle.rewriting.proofs.rewrite.Tie as tie
+
+pub rewrite-spec : {M : Type 1} → statement M
+rewrite-spec =
+    tie.close
+    (tie.spec
+    (λ c κs. search needs)  -- check-requires
+    (λ c. search rooms depth 20 fits 10000)  -- returns
+    (λ c κs. search needs)  -- size-requires
+    (λ c. search rooms depth 20 fits 10000)  -- returns-2
+    (λ c κs. search (copy-asked, needs) depth 20 fits 10000)  -- copy-requires
+    (λ c. search needs)  -- same-length
+    (λ c. search rooms depth 20 fits 10000)  -- returns-3
+    )

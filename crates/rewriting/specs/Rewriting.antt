@@ -1,0 +1,35 @@
+-- What a file to write again is answered, and the lent room after it.
+use Prim.Native.Nat.{ℕ}
+use mathlib.Core.List.{List, _++_}
+use lib.ListN.{length, drop}
+use lib.Dec.{leb, eqb}
+use Rattle.machine.specs.Lists.{pick}
+use Rattle.format.specs.Answers.{accepted}
+use Rattle.reading.specs.Check.{checkOf}
+use Rattle.reading.specs.declared.Answer.{Answer}
+use Rattle.writer.specs.Writing.{noRoom}
+use Rattle.rewriting.specs.Cities.{withoutCities}
+use Rattle.rewriting.specs.declared.Rewritten.{Rewritten}
+
+abbrev pub told : ℕ → ℕ → ℕ → ℕ → Rewritten
+told number line column written = record { answer = number; line = line; column = column; written = written }
+
+-- by the file's own answer, the bytes to write and the room: '12 comes last and only where nothing else applies'
+abbrev pub rewrittenBy : Answer → ℕ → ℕ → Rewritten
+rewrittenBy a n room =
+    pick (eqb (a .number) accepted)
+    (pick (leb n room) (told accepted (a .line) 0 n)
+    (told noRoom (a .line) 0 0))
+    (told (a .number) (a .line) (a .column) 0)
+
+-- the bytes at the front, and those after them as they were
+abbrev pub roomBy : Answer → List ℕ → List ℕ → List ℕ
+roomBy a bytes out = pick (eqb (a .number) accepted) (pick (leb (length bytes) (length out)) (bytes ++ drop (length bytes) out) out) out
+
+-- THE ANSWER to a file to write again, with so much room
+unfoldable pub rewrittenOf : List ℕ → ℕ → Rewritten
+rewrittenOf file room = rewrittenBy (checkOf file) (length (withoutCities file)) room
+
+-- THE ROOM after it
+unfoldable pub roomAfter : List ℕ → List ℕ → List ℕ
+roomAfter file out = roomBy (checkOf file) (withoutCities file) out

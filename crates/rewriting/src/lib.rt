@@ -1,0 +1,137 @@
+// Writes an accepted file again without its city records: 'a file with city records is written again without those lines'.
+ghost use mathlib.Core.Path.{_≡_};
+ghost use mathlib.Core.List.{_++_};
+ghost use Prim.Native.Nat.{_+_, _≤_};
+ghost use lib.ListN.{length, drop};
+ghost use lib.Seq.{paste};
+ghost use Rattle.rewriting.specs.Cities.{isCityKind, isCity, keptLine, withoutCities};
+ghost use Rattle.rewriting.specs.Rewriting.{rewrittenOf, roomAfter};
+use field::bytes::part;
+use format::Code;
+use format::Kind;
+use record::kinds::code_of;
+
+// What a file to write again is answered, and how many bytes were written.
+pub struct Rewritten {
+    pub answer: u8,
+    pub line: u64,
+    pub column: u8,
+    pub written: usize,
+}
+
+// 12: the lent room is too small.
+pub const NO_ROOM: u8 = 12;
+
+fn is_city_kind(k: Kind) -> bool
+    ensures { λ r. ⌜ r ≡ isCityKind k ⌝ }
+{
+    match k {
+        Kind::FileHeader => false,
+        Kind::BatchHeaderB => false,
+        Kind::BatchHeaderC => false,
+        Kind::FixedDescription => false,
+        Kind::OrderingParty => false,
+        Kind::Transaction => false,
+        Kind::NamePayer => false,
+        Kind::CityPayer => true,
+        Kind::PaymentReference => false,
+        Kind::Description => false,
+        Kind::NameBeneficiary => false,
+        Kind::CityBeneficiary => true,
+        Kind::BatchTrailer => false,
+        Kind::FileTrailer => false,
+    }
+}
+
+fn is_city(line: &[u8]) -> bool
+    ensures { λ r. ⌜ r ≡ isCity (now (line .entry)) ⌝ }
+{
+    let code = code_of(line);
+    match code {
+        Code::Of(k) => is_city_kind(k),
+        Code::Unknown => false,
+    }
+}
+
+// A line, or nothing of a city's.
+fn kept(line: &[u8]) -> &[u8]
+    ensures { λ r. ⌜ now r ≡ keptLine (now (line .entry)) ⌝ }
+{
+    if is_city(line) {
+        return part(line, 0, 0);
+    }
+    line
+}
+
+// How many bytes a file has without its cities.
+fn size(file: &[u8]) -> usize
+    ensures { λ r. ⌜ r ≡ length (withoutCities (now (file .entry))) ⌝ }
+{
+    let mut n: usize = 0;
+    let mut i: usize = 0;
+    while i < file.len() {
+        let line = kept(part(file, i, 52));
+        n += line.len();
+        i += 52;
+    }
+    n
+}
+
+// A line at a place of the room.
+fn place(line: &[u8], at: usize, out: &mut [u8])
+    requires { ⌜ at + length (now line) ≤ length (now out) ⌝ }
+    ensures { λ _. ⌜ now (out .exit) ≡ paste (now (out .entry)) at (now (line .entry)) (length (now (line .entry))) ⌝ }
+{
+    let mut i: usize = 0;
+    while i < line.len() {
+        out[at + i] = line[i];
+        i += 1;
+    }
+}
+
+// The lines that are no city's, one after the other.
+fn copy(file: &[u8], out: &mut [u8])
+    requires { ⌜ length (withoutCities (now file)) ≤ length (now out) ⌝ }
+    ensures { λ _. ⌜ now (out .exit) ≡ withoutCities (now (file .entry)) ++ drop (length (withoutCities (now (file .entry)))) (now (out .entry)) ⌝ }
+{
+    let mut at: usize = 0;
+    let mut i: usize = 0;
+    while i < file.len() {
+        let line = kept(part(file, i, 52));
+        place(line, at, out);
+        at += line.len();
+        i += 52;
+    }
+}
+
+// Writes a file again: its own answer, line and column; 12 where only the room is too small. A refusal leaves the room as it was.
+pub fn rewrite(file: &[u8], out: &mut [u8]) -> Rewritten
+    ensures answer { λ r. ⌜ r ≡ rewrittenOf (now (file .entry)) (length (now (out .entry))) ⌝ }
+    ensures bytes { λ _. ⌜ now (out .exit) ≡ roomAfter (now (file .entry)) (now (out .entry)) ⌝ }
+{
+    let a = reading::check(file);
+    if a.number != 0 {
+        return Rewritten {
+            answer: a.number,
+            line: a.line,
+            column: a.column,
+            written: 0,
+        };
+    }
+    let n = size(file);
+    if out.len() < n {
+        return Rewritten {
+            answer: NO_ROOM,
+            line: a.line,
+            column: 0,
+            written: 0,
+        };
+    }
+    copy(file, out);
+    Rewritten {
+        answer: 0,
+        line: a.line,
+        column: 0,
+        written: n,
+    }
+}
