@@ -1,2 +1,3 @@
 pub mod Cities
 pub mod Rewriting
+pub mod Promises

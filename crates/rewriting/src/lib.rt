@@ -5,6 +5,7 @@ ghost use Prim.Native.Nat.{_+_, _≤_};
 ghost use lib.ListN.{length, drop};
 ghost use lib.Seq.{paste};
 ghost use Rattle.rewriting.specs.Cities.{isCityKind, isCity, keptLine, withoutCities};
+ghost use Rattle.rewriting.specs.Promises.{Promised};
 ghost use Rattle.rewriting.specs.Rewriting.{rewrittenOf, roomAfter};
 use field::bytes::part;
 use format::Code;
@@ -108,6 +109,7 @@ fn copy(file: &[u8], out: &mut [u8])
 pub fn rewrite(file: &[u8], out: &mut [u8]) -> Rewritten
     ensures answer { λ r. ⌜ r ≡ rewrittenOf (now (file .entry)) (length (now (out .entry))) ⌝ }
     ensures bytes { λ _. ⌜ now (out .exit) ≡ roomAfter (now (file .entry)) (now (out .entry)) ⌝ }
+    ensures again { λ r. ⌜ Promised (now (file .entry)) r (now (out .exit)) ⌝ }
 {
     let a = reading::check(file);
     if a.number != 0 {

@@ -1,0 +1,48 @@
+-- WHAT WRITING AGAIN PROMISES of an accepted file.
+use Prim.Native.Nat.{ℕ, zero, suc}
+use mathlib.Core.Path.{_≡_}
+use mathlib.Core.List.{List, [], _∷_, _++_}
+use mathlib.Core.Bool.{Bool, true, false}
+use mathlib.Core.Option.{none, some}
+use lib.ListN.{take, drop}
+use Rattle.machine.specs.Lists.{pick}
+use Rattle.format.specs.Answers.{accepted}
+use Rattle.reading.specs.State.{startState}
+use Rattle.reading.specs.Step.{stepAt}
+use Rattle.reading.specs.Check.{checkOf}
+use Rattle.reading.specs.declared.State.{State}
+use Rattle.writer.specs.Entries.{lineFor}
+use Rattle.writer.specs.Writing.{writtenOf}
+use Rattle.writer.specs.Promises.{entryOf}
+use Rattle.writer.specs.declared.Entry.{Entry}
+use Rattle.rewriting.specs.Cities.{isCity}
+use Rattle.rewriting.specs.declared.Rewritten.{Rewritten}
+
+-- no line is a city's, where k bytes of the line before are still to be passed
+unfoldable pub noCityFrom : ℕ → List ℕ → Bool
+noCityFrom k [] = true
+noCityFrom (suc k) (x ∷ xs) = noCityFrom k xs
+noCityFrom zero (x ∷ xs) = pick (isCity (take 52 (x ∷ xs))) false (noCityFrom 51 xs)
+
+-- s reads a file line by line, and of each record that is no city's w writes what the writer does: the line of its record and text, which the writer accepts, and the writer's next state
+pub data Rewrites : State → State → List ℕ → List ℕ → Type 0 where
+  ended : (s w : State) → Rewrites s w [] []
+  city : {s w : State} {x : ℕ} {xs out : List ℕ} → stepAt s (x ∷ xs) .answer ≡ accepted → entryOf (stepAt s (x ∷ xs) .read) ≡ none
+      → Rewrites (stepAt s (x ∷ xs) .next) w (drop 51 xs) out → Rewrites s w (x ∷ xs) out
+  written : {s w : State} {x : ℕ} {xs out : List ℕ} (e : Entry) → stepAt s (x ∷ xs) .answer ≡ accepted → entryOf (stepAt s (x ∷ xs) .read) ≡ some e
+      → writtenOf w e (stepAt s (x ∷ xs) .text) 52 .answer ≡ accepted
+      → Rewrites (stepAt s (x ∷ xs) .next) (writtenOf w e (stepAt s (x ∷ xs) .text) 52 .next) (drop 51 xs) out
+      → Rewrites s w (x ∷ xs) (lineFor w e (stepAt s (x ∷ xs) .text) ++ out)
+
+-- of the bytes written
+pub record Again (file bytes : List ℕ) : Type 0 where
+  -- of a file without city records: the same file
+  pub same-file : noCityFrom 0 file ≡ true → bytes ≡ file
+  -- of every file: the reader accepts them
+  pub accepted-again : checkOf bytes .number ≡ accepted
+  -- and they are what the writer writes of the file's records but cities, one after the other from its own start
+  pub by-writer : Rewrites startState startState file bytes
+
+-- an answer, and the room after it
+unfoldable pub Promised : List ℕ → Rewritten → List ℕ → Type 0
+Promised file r out = r .answer ≡ accepted → Again file (take (r .written) out)
