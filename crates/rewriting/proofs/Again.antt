@@ -1,22 +1,22 @@
 -- A file without its cities is accepted again, and is what the writer writes. Assumes nothing.
-use Prim.Native.Nat.{ℕ, zero, suc, _+_, _-_, _≤_, _<_}
+use Prim.Native.Nat.{ℕ, zero, suc, _+_, _≤_, _<_}
 use mathlib.Core.Path.{_≡_, refl, sym, ap, ap₂, _∙_, subst}
 use mathlib.Core.List.{List, [], _∷_, _++_}
-use mathlib.Core.Bool.{Bool, true, false, not, _&&_}
+use mathlib.Core.Bool.{Bool, true, false}
 use mathlib.Core.Option.{Option, none, some}
 use native.Mathlib.Omega.{arith}
-use borrow.Author.Tests.{eq-eqb, eqb-true, le-leb, leb-true}
+use borrow.Author.Tests.{eq-eqb, eqb-true, leb-true}
 use lib.ListN.{length, take, drop, take-append-drop, length-append}
 use lib.Seq.{take-at, drop-at, length-take-le}
-use lib.Dec.{T, eqb, leb}
+use lib.Dec.{T, eqb}
 use Rattle.machine.specs.Lists.{pick}
 use Rattle.format.specs.Records.{Fields}
 use Rattle.format.specs.declared.Kind.{Kind}
 use Rattle.format.specs.declared.Kind.the-variants.{FileHeader, BatchHeaderB, BatchHeaderC, FixedDescription, OrderingParty, Transaction, NamePayer, CityPayer, PaymentReference, Description, NameBeneficiary, CityBeneficiary, BatchTrailer, FileTrailer}
-use Rattle.format.specs.declared.Code.the-variants.{Of, Unknown}
-use Rattle.field.proofs.Numerics.{and-first, and-second}
+use Rattle.format.specs.declared.Code.the-variants.{Of}
+use Rattle.field.proofs.Numerics.{and-first}
 use Rattle.record.specs.Faults.{fieldsOf}
-use Rattle.record.specs.Read.{recordFor, textFor}
+use Rattle.record.specs.Read.{recordFor}
 use Rattle.reading.specs.State.{startState, isKept, within}
 use Rattle.reading.specs.Step.{nextFor, refused, taken, isWhole, isDone, judgedFirst, nothingRead, readBy, endedAt, refusalLine, stepAt}
 use Rattle.reading.specs.Check.{linesFrom, linesOf, answerOf, answerBy, checkOf}
@@ -34,10 +34,11 @@ use Rattle.writer.specs.declared.Entry.{Entry}
 use Rattle.writer.specs.declared.Written.{Written}
 use Rattle.writer.proofs.Accepting.{step-front}
 use Rattle.writer.proofs.Again.{written-again}
+use Rattle.theorem.proofs.Meaning.{means}
 use Rattle.rewriting.specs.Cities.{isCityKind, isCity, keptLine, keptFrom, withoutCities}
 use Rattle.rewriting.specs.Promises.{noCityFrom, Rewrites, ended, city, written, Again, Promised}
 use Rattle.rewriting.specs.declared.Rewritten.{Rewritten}
-use Rattle.rewriting.proofs.Behind.{true≢false, Behind, alike, within-behind, behind, Taken, takes, taken-too, behind-too, behind-city, city-kind}
+use Rattle.rewriting.proofs.Behind.{true≢false, Behind, alike, within-behind, Taken, takes, taken-too, behind-too, behind-city, city-kind}
 
 -- ## A line kept or not
 
@@ -183,6 +184,45 @@ accepted-again file z =
     let p = follows (refused startState 0 0) (refused startState 0 0) 0 file (record { number = refl; next = start-behind }) (e .number) in
     ended-zero (linesOf startState (keptFrom 0 file)) (subst Ended (sym (lines-start (keptFrom 0 file))) (ended-behind (linesFrom (refused startState 0 0) 0 file) (linesFrom (refused startState 0 0) 0 (keptFrom 0 file)) e p))
 
+-- ## No city is left
+
+pass : (k : ℕ) (xs : List ℕ) → noCityFrom k xs ≡ noCityFrom 0 (drop k xs)
+unfolding noCityFrom
+pass zero xs = refl
+pass (suc k) [] = refl
+pass (suc k) (x ∷ xs) = pass k xs
+
+none-first : (ys : List ℕ) → 0 < length ys → isCity (take 52 ys) ≡ false → noCityFrom 0 ys ≡ noCityFrom 0 (drop 52 ys)
+unfolding noCityFrom pick
+none-first [] h e = absurd (omega arith)
+none-first (y ∷ ys) h e = ap (λ q. pick q false (noCityFrom 51 ys)) e ∙ pass 51 ys
+
+none-before : (xs rest : List ℕ) → 52 ≤ length xs → isCity (take 52 xs) ≡ false → noCityFrom 0 (take 52 xs ++ rest) ≡ noCityFrom 0 rest
+none-before xs rest h e =
+    let l = length-take-le 52 xs h in
+    let n : 0 < length (take 52 xs ++ rest) = rw length-append (omega arith) in
+    none-first (take 52 xs ++ rest) n (ap isCity (take-at (take 52 xs) rest 52 l) ∙ e) ∙ ap (noCityFrom 0) (drop-at (take 52 xs) rest 52 l)
+
+none-line : (xs rest : List ℕ) → 52 ≤ length xs → (q : Bool) → isCity (take 52 xs) ≡ q → noCityFrom 0 rest ≡ true → noCityFrom 0 (keptLine (take 52 xs) ++ rest) ≡ true
+none-line xs rest h true e r = ap (λ l. noCityFrom 0 (l ++ rest)) (line-city (take 52 xs) e) ∙ r
+none-line xs rest h false e r = ap (λ l. noCityFrom 0 (l ++ rest)) (line-kept (take 52 xs) e) ∙ none-before xs rest h e ∙ r
+
+none-left : (j : Judged) (k : ℕ) (xs : List ℕ) → linesFrom j k xs .number ≡ 0 → noCityFrom 0 (keptFrom k xs) ≡ true
+unfolding linesFrom keptFrom noCityFrom
+none-left j k [] z = refl
+none-left j (suc k) (x ∷ xs) z = none-left j k xs z
+none-left j zero (x ∷ xs) z =
+    let f = judgedFirst (j .next) (x ∷ xs) in
+    let n = first-zero f (linesFrom f 51 xs) z in
+    let y : linesFrom f 51 xs .number ≡ 0 = ap (λ (g : Judged). g .number) (sym (first-rest f (linesFrom f 51 xs) n)) ∙ z in
+    none-line (x ∷ xs) (keptFrom 51 xs) (long (x ∷ xs) (takes (j .next) (x ∷ xs) n .whole)) (isCity (take 52 (x ∷ xs))) refl (none-left f 51 xs y)
+
+pub without-cities : (file : List ℕ) → checkOf file .number ≡ 0 → noCityFrom 0 (withoutCities file) ≡ true
+unfolding checkOf withoutCities
+without-cities file z =
+    let e : Ended (linesFrom (refused startState 0 0) 0 file) = subst Ended (lines-start file) (ends (linesOf startState file) z) in
+    none-left (refused startState 0 0) 0 file (e .number)
+
 -- ## What the writer writes
 
 is-some : Option Entry → Bool
@@ -299,7 +339,14 @@ by-writer file z =
 -- ## Of the function's own result
 
 all-again : (file : List ℕ) → checkOf file .number ≡ 0 → Again file (withoutCities file)
-all-again file z = record { same-file = same-file file; accepted-again = accepted-again file z; by-writer = by-writer file z }
+all-again file z =
+    record {
+      same-file = same-file file;
+      accepted-again = accepted-again file z;
+      in-language = means (withoutCities file) .accepted-exactly .0 (accepted-again file z);
+      without-cities = without-cities file z;
+      by-writer = by-writer file z;
+    }
 
 module _ {a : Answer} (file o : List ℕ) (w : Rewritten) (e : a ≡ checkOf file) where
   pub promise-none : (a .number ≡ 0 → ⊥) → w .answer ≡ a .number → Promised file w o

@@ -1,11 +1,11 @@
 -- The state that writes is behind the one that reads: fewer lines, and where a city was passed the name still the last read. What the one takes the other takes. Assumes nothing.
-use Prim.Native.Nat.{ℕ, zero, suc, _+_, _-_, _≤_, _<_}
-use mathlib.Core.Path.{_≡_, refl, sym, ap, ap₂, _∙_, subst}
-use mathlib.Core.List.{List, [], _∷_, _++_}
+use Prim.Native.Nat.{ℕ, _+_, _≤_}
+use mathlib.Core.Path.{_≡_, refl, sym, ap, _∙_, subst}
+use mathlib.Core.List.{List}
 use mathlib.Core.Bool.{Bool, true, false, not, _&&_}
 use native.Mathlib.Omega.{arith}
-use borrow.Author.Tests.{eq-eqb, le-leb, leb-true}
-use lib.ListN.{length, take, drop}
+use borrow.Author.Tests.{eq-eqb, le-leb}
+use lib.ListN.{take}
 use lib.Seq.{take-take}
 use lib.Dec.{T, eqb, leb, ltb}
 use Rattle.machine.specs.Lists.{pick}
@@ -15,9 +15,8 @@ use Rattle.format.specs.declared.Kind.{Kind}
 use Rattle.format.specs.declared.Kind.the-variants.{FileHeader, BatchHeaderB, BatchHeaderC, FixedDescription, OrderingParty, Transaction, NamePayer, CityPayer, PaymentReference, Description, NameBeneficiary, CityBeneficiary, BatchTrailer, FileTrailer}
 use Rattle.format.specs.declared.Group.{Group}
 use Rattle.format.specs.declared.Group.the-variants.{Payments, Debits}
-use Rattle.format.specs.declared.Code.{Code}
-use Rattle.format.specs.declared.Code.the-variants.{Of, Unknown}
-use Rattle.field.proofs.Numerics.{and-first, and-second}
+use Rattle.format.specs.declared.Code.the-variants.{Of}
+use Rattle.field.proofs.Numerics.{and-second}
 use Rattle.record.specs.Kinds.{codeOf}
 use Rattle.record.specs.Faults.{fieldsOf, faultOf}
 use Rattle.record.specs.Read.{transactionFor}

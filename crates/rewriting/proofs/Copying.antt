@@ -1,6 +1,6 @@
 -- Lines that are no city's: counted, placed and copied. Assumes nothing.
 use Prim.Native.Nat.{ℕ, zero, suc, _+_, _-_, _≤_, _<_}
-use mathlib.Core.Path.{_≡_, refl, sym, ap, ap₂, _∙_, subst}
+use mathlib.Core.Path.{_≡_, refl, sym, ap, ap₂, _∙_}
 use mathlib.Core.List.{List, [], _∷_, _++_, append-assoc, append-nil}
 use mathlib.Core.Bool.{Bool, true, false}
 use native.Mathlib.Omega.{arith}
@@ -9,7 +9,6 @@ use borrow.Author.Needs.{needs}
 use borrow.Author.Tests.{eq-eqb, ne-eqb, le-leb, lt-leb}
 use lib.ListN.{length, getD, set, take, drop, length-set, length-append, length-take, length-drop, drop-of-length-le}
 use lib.Seq.{paste, paste-zero, paste-suc, take-all, take-at, drop-drop, drop-append-add}
-use lib.Dec.{eqb, leb}
 use Rattle.machine.specs.Lists.{pick}
 use Rattle.format.specs.declared.Kind.{Kind}
 use Rattle.format.specs.declared.Code.{Code}

@@ -7,6 +7,7 @@ use mathlib.Core.Option.{none, some}
 use lib.ListN.{take, drop}
 use Rattle.machine.specs.Lists.{pick}
 use Rattle.format.specs.Answers.{accepted}
+use Rattle.format.specs.Statements.{InLanguage}
 use Rattle.reading.specs.State.{startState}
 use Rattle.reading.specs.Step.{stepAt}
 use Rattle.reading.specs.Check.{checkOf}
@@ -38,8 +39,10 @@ pub data Rewrites : State → State → List ℕ → List ℕ → Type 0 where
 pub record Again (file bytes : List ℕ) : Type 0 where
   -- of a file without city records: the same file
   pub same-file : noCityFrom 0 file ≡ true → bytes ≡ file
-  -- of every file: the reader accepts them
+  -- of every file: the reader accepts them, so they are a file of the language, and none of it is a city record
   pub accepted-again : checkOf bytes .number ≡ accepted
+  pub in-language : InLanguage bytes
+  pub without-cities : noCityFrom 0 bytes ≡ true
   -- and they are what the writer writes of the file's records but cities, one after the other from its own start
   pub by-writer : Rewrites startState startState file bytes
 
