@@ -160,9 +160,6 @@ module _ {file o out : List ℕ} {at i : ℕ} (c : Copying file o out at i) wher
       c .is ∙ ap₂ (λ d n. d ++ drop n o) e (sym (c .long) ∙ ap length e)
 
   module _ {p line : List ℕ} (h : i < length file) (e : p ≡ take 52 (drop i file)) (d : line ≡ keptLine p) where
-    rest : List ℕ
-    rest = keptFrom 0 (drop (i + 52) file)
-
     next : (c .done ++ line) ++ keptFrom 0 (drop (i + 52) file) ≡ withoutCities file
     next =
         append-assoc (c .done) line (keptFrom 0 (drop (i + 52) file))
