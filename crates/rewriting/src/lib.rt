@@ -22,9 +22,6 @@ pub struct Rewritten {
     pub written: usize,
 }
 
-// 12: the lent room is too small.
-pub const NO_ROOM: u8 = 12;
-
 fn is_city_kind(k: Kind) -> bool
     ensures { λ r. ⌜ r ≡ isCityKind k ⌝ }
 {
@@ -125,7 +122,7 @@ pub fn rewrite(file: &[u8], out: &mut [u8]) -> Rewritten
     let n = size(file);
     if out.len() < n {
         return Rewritten {
-            answer: NO_ROOM,
+            answer: writer::NO_ROOM,
             line: a.line,
             column: 0,
             written: 0,
