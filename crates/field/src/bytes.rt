@@ -32,7 +32,7 @@ fn is_digit(b: u8) -> bool
 }
 
 // Only bytes from 32 to 126.
-pub fn is_printable(s: &[u8]) -> bool
+pub(crate) fn is_printable(s: &[u8]) -> bool
     ensures { λ r. ⌜ r ≡ all printable (now (s .entry)) ⌝ }
 {
     let mut ok = true;
@@ -85,7 +85,7 @@ pub fn is_same(a: &[u8], b: &[u8]) -> bool
 }
 
 // A first byte that is no space.
-pub fn is_left_justified(s: &[u8]) -> bool
+pub(crate) fn is_left_justified(s: &[u8]) -> bool
     ensures { λ r. ⌜ r ≡ leftJustified (now (s .entry)) ⌝ }
 {
     if s.len() == 0 {

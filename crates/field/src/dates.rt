@@ -18,7 +18,7 @@ fn days_in(month: u64, year: u64) -> u64
     }
 }
 
-pub fn is_date(n: u64) -> bool
+pub(crate) fn is_date(n: u64) -> bool
     ensures { λ r. ⌜ r ≡ isDate n ⌝ }
 {
     let month = n / 100 % 100;

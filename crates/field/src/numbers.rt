@@ -21,7 +21,7 @@ pub struct Numeric {
     pub value: u64,
 }
 
-pub fn wide(x: u8) -> u64
+pub(crate) fn wide(x: u8) -> u64
     ensures { λ r. ⌜ r ≡ x ⌝ }
 {
     x as u64
@@ -42,7 +42,7 @@ fn value(s: &[u8]) -> u64
 }
 
 // At most 18 digits.
-pub fn digits_in(s: &[u8]) -> Digits
+pub(crate) fn digits_in(s: &[u8]) -> Digits
     ensures { λ r. ⌜ r ≡ digitsOf (now (s .entry)) ⌝ }
 {
     if 18 < s.len() {
@@ -70,13 +70,13 @@ pub fn digits_at(line: &[u8], at: usize, width: usize) -> Digits
     digits_in(part(line, at, width))
 }
 
-pub fn wrong(number: u8) -> Numeric
+pub(crate) fn wrong(number: u8) -> Numeric
     ensures { λ r. ⌜ r ≡ wrongNo number ⌝ }
 {
     Numeric { number, value: 0 }
 }
 
-pub fn right(value: u64) -> Numeric
+pub(crate) fn right(value: u64) -> Numeric
     ensures { λ r. ⌜ r ≡ rightOf value ⌝ }
 {
     Numeric { number: 0, value }

@@ -48,6 +48,14 @@ endsEarly = 10
 abbrev pub afterTrailer : ℕ
 afterTrailer = 11
 
+-- 'lent room too small: under 52 bytes left to write, under 128 for descriptions'
+abbrev pub noRoom : ℕ
+noRoom = 12
+
+-- 'no such batch or item; the line is the file's number of lines'
+abbrev pub noSuchItem : ℕ
+noSuchItem = 13
+
 -- 'a state handed in' beyond 01's limits
 abbrev pub beyondLimits : ℕ
 beyondLimits = 24

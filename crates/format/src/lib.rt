@@ -71,4 +71,8 @@ pub const ENDS_EARLY: u8 = 10;
 
 pub const AFTER_TRAILER: u8 = 11;
 
+pub const NO_ROOM: u8 = 12;
+
+pub const NO_SUCH_ITEM: u8 = 13;
+
 pub const BEYOND_LIMITS: u8 = 24;

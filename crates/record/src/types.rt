@@ -61,7 +61,7 @@ fn is_text_of(s: &[u8], group: Group) -> bool
 }
 
 // A group, and the one so far where that is said.
-pub fn group_no(line: &[u8], said: bool, group: Group) -> u8
+pub(crate) fn group_no(line: &[u8], said: bool, group: Group) -> u8
     ensures { λ r. ⌜ r ≡ fieldNo (filled 2) (test (isGroup (take 2 (drop 5 (now (line .entry))))) wrongValue ∷ groupTests (groupSaid said group) (take 2 (drop 5 (now (line .entry))))) (take 2 (drop 5 (now (line .entry)))) ⌝ }
 {
     let f = filled_no(line, 5, 2);
@@ -108,14 +108,14 @@ fn type_of(s: &[u8]) -> TypeRead
     TypeRead::NoType
 }
 
-pub fn type_in(line: &[u8]) -> TypeRead
+pub(crate) fn type_in(line: &[u8]) -> TypeRead
     ensures { λ r. ⌜ r ≡ typeOf (take 4 (drop 5 (now (line .entry)))) ⌝ }
 {
     type_of(part(line, 5, 4))
 }
 
 // A type that is none of the six stands in no record that is handed out.
-pub fn type_or(t: TypeRead) -> TransactionType
+pub(crate) fn type_or(t: TypeRead) -> TransactionType
     ensures { λ r. ⌜ r ≡ typeOr t ⌝ }
 {
     match t {
@@ -165,7 +165,7 @@ fn type_fault(t: TypeRead, group: Group) -> u8
 }
 
 // A type of the group; t is what its characters stand for.
-pub fn type_no(line: &[u8], t: TypeRead, group: Group) -> u8
+pub(crate) fn type_no(line: &[u8], t: TypeRead, group: Group) -> u8
     ensures { λ r. ⌜ r ≡ fieldNo (filled 4) (typeTests group t) (take 4 (drop 5 (now (line .entry)))) ⌝ }
 {
     let f = filled_no(line, 5, 4);

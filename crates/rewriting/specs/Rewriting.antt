@@ -4,10 +4,9 @@ use mathlib.Core.List.{List, _++_}
 use lib.ListN.{length, drop}
 use lib.Dec.{leb, eqb}
 use Rattle.machine.specs.Lists.{pick}
-use Rattle.format.specs.Answers.{accepted}
+use Rattle.format.specs.Answers.{accepted, noRoom}
 use Rattle.reading.specs.Check.{checkOf}
 use Rattle.reading.specs.declared.Answer.{Answer}
-use Rattle.writer.specs.Writing.{noRoom}
 use Rattle.rewriting.specs.Cities.{withoutCities}
 use Rattle.rewriting.specs.declared.Rewritten.{Rewritten}
 

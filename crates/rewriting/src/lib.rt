@@ -122,7 +122,7 @@ pub fn rewrite(file: &[u8], out: &mut [u8]) -> Rewritten
     let n = size(file);
     if out.len() < n {
         return Rewritten {
-            answer: writer::NO_ROOM,
+            answer: format::NO_ROOM,
             line: a.line,
             column: 0,
             written: 0,

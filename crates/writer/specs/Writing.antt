@@ -4,17 +4,13 @@ use mathlib.Core.List.{List, _++_}
 use lib.ListN.{length, drop}
 use lib.Dec.{leb, eqb}
 use Rattle.machine.specs.Lists.{pick}
-use Rattle.format.specs.Answers.{accepted}
+use Rattle.format.specs.Answers.{accepted, noRoom}
 use Rattle.reading.specs.Step.{stepAt}
 use Rattle.reading.specs.declared.State.{State}
 use Rattle.reading.specs.declared.LineRead.{LineRead}
 use Rattle.writer.specs.Entries.{lineFor}
 use Rattle.writer.specs.declared.Entry.{Entry}
 use Rattle.writer.specs.declared.Written.{Written}
-
--- 'lent room too small: under 52 bytes left to write'
-abbrev pub noRoom : ℕ
-noRoom = 12
 
 abbrev pub answered : ℕ → ℕ → ℕ → State → Written
 answered number line column next = record { answer = number; line = line; column = column; next = next }

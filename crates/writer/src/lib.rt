@@ -50,9 +50,6 @@ pub struct Written {
     pub next: State,
 }
 
-// 12: the lent room is too small.
-pub const NO_ROOM: u8 = 12;
-
 // A line at the front of the room.
 fn place(line: [u8; 52], out: &mut [u8])
     requires { ⌜ 52 ≤ length (now out) ⌝ }
@@ -82,7 +79,7 @@ fn write_line(state: State, line: [u8; 52], out: &mut [u8]) -> Written
     }
     if out.len() < 52 {
         return Written {
-            answer: NO_ROOM,
+            answer: format::NO_ROOM,
             line: r.line,
             column: 0,
             next: state,
