@@ -1,24 +1,25 @@
 -- The eleven check by digits, and the own account. Assumes nothing.
 use Prim.Native.Nat.{ℕ, zero, suc, _+_, _-_, _*_, _/_, _%_, _<_, _≤_}
-use mathlib.Core.Path.{_≡_, refl, sym, ap, ap₂, _∙_, subst}
+use mathlib.Core.Path.{_≡_, refl, sym, ap, ap₂, _∙_}
 use mathlib.Core.List.{List, [], _∷_}
-use mathlib.Core.Bool.{Bool, true, false, not, _&&_}
+use mathlib.Core.Bool.{Bool, true, false, _&&_}
 use native.Mathlib.Omega.{arith}
 use native.Mathlib.Nat.{mul-le-mul}
 use native.Mathlib.Numerals.{add-one}
 use borrow.Author.Needs.{needs}
-use borrow.Author.Tests.{leb-true, le-leb, lt-leb, eq-eqb, ne-eqb}
+use borrow.Author.Tests.{leb-true, le-leb, lt-leb}
 use lib.ListN.{length, getD, take, drop, drop-of-length-le, length-drop, length-take}
 use lib.Seq.{drop-cons}
-use lib.Dec.{T, leb, eqb}
+use lib.Dec.{leb, eqb}
 use mir.Val.{Fits}
 use mir.Syntax.{w64}
 use Rattle.machine.specs.Lists.{all, isDigit}
 use Rattle.machine.specs.Digits.{valueAfter, valueOf}
+use Rattle.machine.proofs.Base.{and-first, and-second}
 use Rattle.format.specs.Rules.{isEleven, isOrderingAccount, isAccount, weighted}
 use Rattle.field.specs.declared.numbers.Numeric.{Numeric}
 use Rattle.field.specs.Leaf.{TenDigits, weighedSum, isOwnIf, numericOf, rangeTests}
-use Rattle.field.proofs.Numerics.{and-first, and-second, is-digits}
+use Rattle.field.proofs.Numerics.{is-digits}
 use Rattle.field.proofs.Rows.{of-value}
 
 -- ## The sum, digit by digit

@@ -1,13 +1,13 @@
 -- The form of a field, then its tests. Assumes nothing.
 use Prim.Native.Nat.{ℕ}
-use mathlib.Core.Path.{_≡_, refl, sym, ap, _∙_, subst}
+use mathlib.Core.Path.{_≡_, refl, sym, _∙_, subst}
 use mathlib.Core.List.{List, [], _∷_}
 use mathlib.Core.Bool.{Bool, true, false, not, _&&_}
-use borrow.Author.Tests.{eq-eqb, ne-eqb, eqb-true, leb-true, le-leb}
-use lib.Dec.{T, eqb, leb}
+use borrow.Author.Tests.{eqb-true}
+use lib.Dec.{T, eqb}
 use Rattle.machine.specs.Lists.{pick, all, same, isSpace}
-use Rattle.format.specs.Fields.{Field, filled, optional, wellFormed, printable, leftJustified}
-use Rattle.format.specs.Tests.{Test, test}
+use Rattle.format.specs.Fields.{Field, filled, optional, wellFormed, printable}
+use Rattle.format.specs.Tests.{Test}
 use Rattle.field.specs.Rows.{firstNo, fieldNo}
 use Rattle.field.proofs.Picks.{picks}
 

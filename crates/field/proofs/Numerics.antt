@@ -1,6 +1,6 @@
 -- The value of digits, and numeric fields by what the digits are. Assumes nothing.
 use Prim.Native.Nat.{ℕ, suc, _+_, _-_, _*_, _<_, _^_, _≤_}
-use mathlib.Core.Path.{_≡_, refl, sym, ap, _∙_, subst}
+use mathlib.Core.Path.{_≡_, refl, sym, ap, _∙_}
 use mathlib.Core.List.{List, [], _∷_}
 use mathlib.Core.Bool.{Bool, true, false, not, _&&_}
 use native.Mathlib.Omega.{arith}
@@ -13,8 +13,9 @@ use lib.Seq.{drop-cons}
 use lib.Dec.{T, lit<, eqb, leb, ltb}
 use mir.Val.{Fits}
 use mir.Syntax.{w64}
-use Rattle.machine.specs.Lists.{pick, all, isDigit, inRange}
+use Rattle.machine.specs.Lists.{pick, all, isDigit}
 use Rattle.machine.specs.Digits.{valueAfter, valueOf}
+use Rattle.machine.proofs.Base.{and-first, and-second}
 use Rattle.format.specs.Tests.{Test, test}
 use Rattle.field.specs.declared.numbers.Digits.{Digits}
 use Rattle.field.specs.declared.numbers.Numeric.{Numeric}
@@ -32,14 +33,6 @@ pub record Reading (s : List ℕ) (v i : ℕ) : Type 0 where
 
 pub reading-none : (s : List ℕ) → all isDigit s ≡ true → Reading s 0 0
 reading-none s h = record { within = omega arith; digits = h; small = lit< tt; value = refl }
-
-pub and-first : (a b : Bool) → (a && b) ≡ true → a ≡ true
-and-first true b h = refl
-and-first false b h = h
-
-pub and-second : (a b : Bool) → (a && b) ≡ true → b ≡ true
-and-second true b h = h
-and-second false b h = absurd (subst (λ (t : Bool). T (not t)) h tt)
 
 module _ {s : List ℕ} {v i : ℕ} (r : Reading s v i) where
   pub reading-all : length s ≤ i → v ≡ valueOf s

@@ -81,7 +81,7 @@ abbrev pub lineChecks : ℕ → (fs : List Field) → Tests fs → List ℕ → 
 lineChecks column [] t l k = k
 lineChecks column (f ∷ fs) t l k = check (wellFormed f (take (width f) l)) wrongForm column ∷ fieldChecks column (t .0) (lineChecks (column + width f) fs (t .1) (drop (width f) l) k)
 
-field-passed : (c : ℕ) (ts : List Test) (k : List Check) → Pass (fieldChecks c ts k) → Hold ts × Pass k
+pub field-passed : (c : ℕ) (ts : List Test) (k : List Check) → Pass (fieldChecks c ts k) → Hold ts × Pass k
 field-passed c [] k p = (tt, p)
 field-passed c (test b n ∷ ts) k p = let r = field-passed c ts k (p .1) in ((p .0, r .0), r .1)
 

@@ -1,11 +1,11 @@
 -- The lines of a file: 50 characters and then the end.
 use mathlib.Core.Bool.{Bool}
-use mathlib.Core.List.{List, [], _∷_}
+use mathlib.Core.List.{List}
 use Prim.Native.Nat.{ℕ, _+_}
 use lib.ListN.{length, drop}
 use Rattle.machine.specs.Lists.{same}
 use Rattle.machine.specs.Lines.{Cut, blockCut, front, Exactly}
-use Rattle.format.specs.Language.{Ending, crlf, endBytes}
+use Rattle.format.specs.Language.{crlf, endBytes}
 
 abbrev pub ends : List ℕ → List ℕ → Bool
 ends z c = same (drop 50 c) z

@@ -1,5 +1,5 @@
 -- What is tested of each field's value, field by field in the order of the record table: each test with the answer where it fails (01, 'Field rules' and 'Answers').
-use mathlib.Core.Bool.{Bool, true, false, _||_}
+use mathlib.Core.Bool.{Bool, _||_}
 use mathlib.Core.List.{List, [], _∷_}
 use mathlib.Core.Option.{Option, none, some}
 use Prim.Native.Nat.{ℕ, suc, _+_}
@@ -9,7 +9,6 @@ use Rattle.format.specs.Fields.{Field}
 use Rattle.format.specs.Records.{layout, Fields, creationDate, fileName, identification, duplicateCode, group, orderingAccount, sequence, currency, nameCode, desiredDate, testCode, type, amount, payer, beneficiary, totalAmount, totalAccounts, items}
 use Rattle.format.specs.Rules.{maxAmount, maxTotal, maxItems, maxAccount, maxSequence, CLIEOP03, EUR, isTestCode, isDate, isDesiredDate, isIdentification, isOfDay, isOrderingAccount, isAccount, isOwnPayer, isOwnBeneficiary, groupText, isGroup, isNameCodeIn, typeOf, isType, isTypeIn}
 use Rattle.format.specs.Answers.{wrongValue, wrongAccount, differs, aboveMaximum, wrongTrailer}
-use Rattle.format.specs.declared.Kind.{Kind}
 use Rattle.format.specs.declared.Kind.the-variants.{FileHeader, BatchHeaderB, OrderingParty, Transaction, BatchTrailer}
 use Rattle.format.specs.declared.Group.{Group}
 use Rattle.format.specs.declared.TypeRead.{TypeRead}

@@ -1,13 +1,13 @@
 -- Blocks of W bytes are a way to cut lines that keeps the three laws.
-use mathlib.Core.Path.{_≡_, refl, sym, ap, ap₂, _∙_, subst}
-use mathlib.Core.Bool.{Bool, true, false, not, cond, _&&_}
-use mathlib.Core.List.{List, [], _∷_, _++_}
-use mathlib.Core.Option.{Option, none, some}
-use Prim.Native.Nat.{ℕ, zero, suc, _+_, _≤_, _<_}
+use mathlib.Core.Path.{_≡_, refl, sym, ap, subst}
+use mathlib.Core.Bool.{Bool, true, false, cond, _&&_}
+use mathlib.Core.List.{List, _++_}
+use mathlib.Core.Option.{none, some}
+use Prim.Native.Nat.{ℕ, _≤_, _<_}
 use native.Mathlib.Omega.{arith}
 use lib.ListN.{length, take, drop, take-append-drop, length-drop, length-append}
 use lib.Seq.{take-at, drop-at, length-take-le}
-use lib.Dec.{T, leb, eqb, leb→le, le→leb}
+use lib.Dec.{T, leb, leb→le, le→leb}
 use Rattle.machine.proofs.Base.{and-l, and-r, and-i, of-eq}
 use Rattle.machine.specs.Lines.{Cut, blockCut}
 use Rattle.machine.proofs.Lines.{Cuts}

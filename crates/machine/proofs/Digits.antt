@@ -1,11 +1,10 @@
 -- Laws of digits and spaces: what stands in a field, and back.
-use mathlib.Core.Path.{_≡_, refl, sym, ap, ap₂, _∙_, subst}
-use mathlib.Core.Bool.{Bool, true, false, not, _&&_}
+use mathlib.Core.Path.{_≡_, refl, sym, ap, ap₂, _∙_}
 use mathlib.Core.List.{List, [], _∷_, _++_, append-nil}
-use Prim.Native.Nat.{ℕ, zero, suc, _+_, _*_, _-_, _/_, _%_, _≤_, _<_}
+use Prim.Native.Nat.{ℕ, zero, suc, _+_, _*_, _-_, _/_, _%_, _<_}
 use native.Mathlib.Omega.{arith}
-use lib.ListN.{length, replicate}
-use lib.Dec.{T, leb, eqb, leb→le, le→leb, eqb→eq, eqb-refl}
+use lib.ListN.{length}
+use lib.Dec.{T, leb, leb→le, le→leb, eqb→eq}
 use Rattle.machine.specs.Lists.{all, isDigit, isSpace, spaces}
 use Rattle.machine.specs.Digits.{pow10, digitsOnto, decimal, valueAfter, valueOf}
 use Rattle.machine.proofs.Base.{and-l, and-r, and-i}

@@ -1,10 +1,10 @@
 -- A reader of lines over an abstract step, whatever a line is. Three laws of `cut` are all that is asked of the cutting.
 use mathlib.Core.Path.{_≡_, refl, sym, ap, _∙_, subst}
 use mathlib.Core.Bool.{Bool, true, false, not, cond}
-use mathlib.Core.List.{List, [], _∷_, _++_, append-assoc, append-nil}
-use mathlib.Core.Option.{Option, none, some}
+use mathlib.Core.List.{List, [], _∷_, _++_, append-assoc}
+use mathlib.Core.Option.{none, some}
 use mathlib.Core.Logic.{_≢_, _↔_}
-use Prim.Native.Nat.{ℕ, zero, suc, _+_, _≤_, _<_}
+use Prim.Native.Nat.{ℕ, zero, suc, _+_, _<_}
 use native.Mathlib.Omega.{arith}
 use lib.ListN.{length}
 use lib.Dec.{T, T-not}
@@ -16,18 +16,6 @@ pub record Cuts (cut : List ℕ → Cut) : Type 0 where
   pub splits : (b c r : List ℕ) → cut b ≡ some (c, r) → b ≡ c ++ r
   pub shrinks : (b c r : List ℕ) → cut b ≡ some (c, r) → length r < length b
   pub stable : (b c r : List ℕ) → cut b ≡ some (c, r) → (r′ : List ℕ) → cut (c ++ r′) ≡ some (c, r′)
-
-module _ {E : Type 0} (cut : E → List ℕ → Cut) (turn : E → List ℕ → E) where
-  -- the first lines are a beginning of the bytes
-  module _ (L : (e : E) → Cuts (cut e)) where
-    prefix-at : (e : E) (b : List ℕ) (k : List ℕ → List ℕ → List ℕ) → ((c r : List ℕ) → (q : List ℕ) × (r ≡ k c r ++ q)) → (o : Cut) → cut e b ≡ o → (q : List ℕ) × (b ≡ firstOf o b k ++ q)
-    prefix-at e b k ih none h = ([], sym (append-nil b))
-    prefix-at e b k ih (some (c, r)) h = let q = ih c r in (q .0, L e .splits b c r h ∙ ap (λ l. c ++ l) (q .1) ∙ sym (append-assoc c (k c r) (q .0)))
-
-    pub front-prefix : (n : ℕ) (e : E) (b : List ℕ) → (q : List ℕ) × (b ≡ front cut turn e n b ++ q)
-    unfolding front
-    front-prefix zero e b = (b, refl)
-    front-prefix (suc n) e b = prefix-at e b (λ c r. front cut turn (turn e c) n r) (λ c r. front-prefix n (turn e c) r) (cut e b) refl
 
 module _ (S : Type 0) (step : S → List ℕ → Outcome S) (isEnd : S → Bool) {E : Type 0} (cut : E → List ℕ → Cut) (turn : E → List ℕ → E) where
   abbrev pub follow : Outcome S → ℕ → (S → Answer) → Answer

@@ -1,6 +1,6 @@
 -- The lines of some bytes, whatever a line is: `cut e` takes the first line off, where e is what the lines so far have fixed of the cutting, and `turn e c` what they have fixed after the line c.
 use mathlib.Core.Path.{_≡_}
-use mathlib.Core.List.{List, [], _∷_, _++_}
+use mathlib.Core.List.{List, [], _++_}
 use mathlib.Core.Option.{Option, none, some}
 use mathlib.Core.Bool.{Bool, cond, _&&_}
 use Prim.Native.Nat.{ℕ, zero, suc}

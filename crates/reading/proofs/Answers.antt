@@ -1,13 +1,11 @@
 -- The line reader and the whole file over the lines judged. Assumes nothing.
 use Prim.Native.Nat.{ℕ, zero, suc, _+_, _≤_, _<_}
-use mathlib.Core.Path.{_≡_, refl, sym, ap, ap₂, _∙_, subst}
+use mathlib.Core.Path.{_≡_, refl, sym, ap, _∙_, subst}
 use mathlib.Core.List.{List, [], _∷_}
 use mathlib.Core.Bool.{Bool, true, false}
 use native.Mathlib.Omega.{arith}
 use borrow.Author.Tests.{eq-eqb, ne-eqb, leb-true}
-use borrow.Author.Needs.{needs}
-use lib.ListN.{length, take, drop, length-take}
-use lib.Seq.{drop-nil}
+use lib.ListN.{length, take, drop}
 use lib.Dec.{T, eqb, leb}
 use mir.Val.{Fits}
 use mir.Syntax.{w64}
@@ -19,7 +17,7 @@ use Rattle.record.specs.Faults.{fieldsOf, faultOf}
 use Rattle.record.specs.Read.{recordFor, textFor, valuesOf}
 use Rattle.record.specs.declared.Record.{Record}
 use Rattle.reading.specs.State.{startState, isKept, within}
-use Rattle.reading.specs.Step.{refused, taken, nextFor, judgedFirst, refusalLine, nothingRead, readBy, endedAt, stepAt}
+use Rattle.reading.specs.Step.{refused, taken, judgedFirst, refusalLine, nothingRead, readBy, endedAt, stepAt}
 use Rattle.reading.specs.Check.{linesFrom, linesOf, answerOf, answerBy, checkOf}
 use Rattle.reading.specs.declared.State.{State}
 use Rattle.reading.specs.declared.Judged.{Judged}
@@ -59,7 +57,7 @@ lines-first s (x ∷ xs) h = by (within s) refl
     by true w = one-line s x xs
     by false w = first-beyond s (x ∷ xs) w refl
 
-step-first : (s : State) (xs : List ℕ) → 0 < length xs → stepAt s xs ≡ readBy (take 50 xs) (judgedFirst s xs .code) (judgedFirst s xs)
+pub step-first : (s : State) (xs : List ℕ) → 0 < length xs → stepAt s xs ≡ readBy (take 50 xs) (judgedFirst s xs .code) (judgedFirst s xs)
 unfolding stepAt
 step-first s [] h = absurd (omega arith)
 step-first s (x ∷ xs) h = refl

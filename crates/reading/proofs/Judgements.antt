@@ -1,13 +1,14 @@
 -- The judging of a line from what calls answered, and what it keeps. Assumes nothing.
-use Prim.Native.Nat.{ℕ, zero, suc, _+_, _%_, _≤_, _<_, zero-le}
-use mathlib.Core.Path.{_≡_, refl, sym, ap, ap₂, _∙_, subst}
-use mathlib.Core.List.{List, [], _∷_}
-use mathlib.Core.Bool.{Bool, true, false, not, _&&_, _||_}
+use Prim.Native.Nat.{ℕ, _+_, _≤_, _<_, zero-le}
+use mathlib.Core.Path.{_≡_, refl, sym, ap, _∙_, subst}
+use mathlib.Core.List.{List}
+use mathlib.Core.Bool.{Bool, true, false}
 use native.Mathlib.Omega.{arith}
 use borrow.Author.Tests.{eq-eqb, ne-eqb, ltb-true, eqb-true}
-use lib.ListN.{length, getD, take}
-use lib.Dec.{T, eqb, ltb}
+use lib.ListN.{take}
+use lib.Dec.{T, eqb}
 use Rattle.machine.specs.Lists.{pick}
+use Rattle.machine.proofs.Base.{and-second}
 use Rattle.format.specs.Records.{amount}
 use Rattle.format.specs.declared.Kind.{Kind}
 use Rattle.format.specs.declared.Kind.the-variants.{FileHeader, BatchHeaderB, BatchHeaderC, FixedDescription, OrderingParty, Transaction, NamePayer, CityPayer, PaymentReference, Description, NameBeneficiary, CityBeneficiary, BatchTrailer, FileTrailer}
@@ -15,7 +16,7 @@ use Rattle.format.specs.declared.Group.{Group}
 use Rattle.format.specs.declared.Code.{Code}
 use Rattle.format.specs.declared.Code.the-variants.{Of, Unknown}
 use Rattle.record.specs.Kinds.{codeOf}
-use Rattle.record.specs.Faults.{faultAt, fieldsOf, maximaFault, faultOf}
+use Rattle.record.specs.Faults.{fieldsOf, maximaFault, faultOf}
 use Rattle.record.specs.Read.{transactionFor, transactionOf, valuesOf}
 use Rattle.record.specs.declared.Batch.{Batch}
 use Rattle.record.specs.declared.Fault.{Fault}
@@ -24,7 +25,7 @@ use Rattle.record.proofs.Reading.{valued}
 use Rattle.record.proofs.Faulting.{transaction-read, transaction-refused, transaction-taken, transaction-bounded, maxima-kept, header-bounded, identified-bounded}
 use Rattle.reading.specs.State.{Kept, within}
 use Rattle.reading.specs.Bounds.{Bounded}
-use Rattle.reading.specs.Order.{isTransaction, isStage, mayFix, mayText, mayDescribe, roomFor, allowed, allowedBy}
+use Rattle.reading.specs.Order.{isTransaction, isStage, mayFix, mayText, mayDescribe, roomFor, allowed}
 use Rattle.reading.specs.Step.{nextFor, paid, refused, taken, judgedBy, judgedAs, judgedKind, judgedCode, judgedLine, isWhole, isDone, judgedFirst}
 use Rattle.reading.specs.declared.Stage.the-variants.{Opened}
 use Rattle.reading.specs.declared.State.{State}
@@ -133,10 +134,6 @@ module _ (s : State) (xs : List ℕ) where
 pub ruleset firsts = (first-beyond, first-done, first-line, first-broken)
 
 -- ## What is kept from line to line
-
-and-second : (a b : Bool) → (a && b) ≡ true → b ≡ true
-and-second true b h = h
-and-second false b h = absurd (subst T (sym h) tt)
 
 fix-room : (s : State) → allowed s FixedDescription ≡ true → s .batch .fixed < 4
 unfolding allowed mayFix

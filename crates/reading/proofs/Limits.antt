@@ -1,24 +1,16 @@
 -- 01's limits of a state as a test and as facts. Assumes nothing.
-use Prim.Native.Nat.{ℕ, _+_, _≤_, _<_}
-use mathlib.Core.Path.{_≡_, refl, sym, ap, _∙_, subst}
-use mathlib.Core.Bool.{Bool, true, false, not, _&&_}
+use Prim.Native.Nat.{_+_, _≤_, _<_}
+use mathlib.Core.Path.{_≡_, refl, sym, _∙_}
+use mathlib.Core.Bool.{Bool, true, false, _&&_}
 use native.Mathlib.Omega.{arith}
-use borrow.Author.Needs.{needs}
 use borrow.Author.Tests.{le-leb, lt-leb, leb-true}
-use lib.Dec.{T, leb}
+use lib.Dec.{leb}
 use mir.Val.{Fits}
 use mir.Syntax.{w64}
+use Rattle.machine.proofs.Base.{and-first, and-second}
 use Rattle.format.specs.Rules.{maxItems, maxTotal, maxAccount, maxSequence}
 use Rattle.reading.specs.State.{maxLine, isKept, within, Kept}
 use Rattle.reading.specs.declared.State.{State}
-
-and-first : (a b : Bool) → (a && b) ≡ true → a ≡ true
-and-first true b h = refl
-and-first false b h = h
-
-and-second : (a b : Bool) → (a && b) ≡ true → b ≡ true
-and-second true b h = h
-and-second false b h = absurd (subst (λ (t : Bool). T (not t)) h tt)
 
 kept-facts : {b : Bool} (s : State) → b ≡ isKept s → b ≡ true → Kept s
 unfolding isKept

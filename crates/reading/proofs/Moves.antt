@@ -1,14 +1,13 @@
 -- The state after a record, from what calls answered. Assumes nothing.
-use Prim.Native.Nat.{ℕ, _+_, _≤_}
-use mathlib.Core.Path.{_≡_, refl, sym, ap, ap₂, _∙_}
+use Prim.Native.Nat.{ℕ}
+use mathlib.Core.Path.{_≡_, sym, ap, _∙_}
 use mathlib.Core.List.{List}
-use mathlib.Core.Bool.{Bool, true, false}
+use mathlib.Core.Bool.{Bool, false}
 use lib.ListN.{take, drop}
 use Rattle.format.specs.Rules.{isUnchecked}
 use Rattle.format.specs.declared.Kind.{Kind}
 use Rattle.format.specs.declared.Kind.the-variants.{BatchHeaderB, Transaction}
 use Rattle.format.specs.declared.Group.{Group}
-use Rattle.format.specs.declared.TransactionType.{TransactionType}
 use Rattle.field.specs.Leaf.{digitsOf}
 use Rattle.record.specs.Read.{transactionFor, valuesOf}
 use Rattle.record.specs.declared.Batch.{Batch}

@@ -1,7 +1,7 @@
 -- The order of records: what calls answered, put together. Assumes nothing.
 use Prim.Native.Nat.{ℕ}
-use mathlib.Core.Path.{_≡_, refl, sym, ap, ap₂, _∙_}
-use mathlib.Core.Bool.{Bool, true, false, not, _&&_, _||_}
+use mathlib.Core.Path.{_≡_, ap, ap₂}
+use mathlib.Core.Bool.{Bool, false, not, _&&_, _||_}
 use borrow.Author.Needs.{needs}
 use lib.Dec.{eqb, ltb}
 use Rattle.format.specs.declared.Kind.{Kind}

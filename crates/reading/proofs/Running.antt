@@ -1,19 +1,16 @@
 -- Lines one after the other, and the line reader over the first. Assumes nothing.
-use Prim.Native.Nat.{ℕ, zero, suc, _+_, _-_, _≤_, _<_}
-use mathlib.Core.Path.{_≡_, refl, sym, ap, _∙_, subst}
+use Prim.Native.Nat.{ℕ, zero, suc, _+_, _≤_, _<_}
+use mathlib.Core.Path.{_≡_, refl, sym, ap, _∙_}
 use mathlib.Core.List.{List, [], _∷_}
 use mathlib.Core.Bool.{Bool, true, false, _&&_}
 use native.Mathlib.Omega.{arith}
-use borrow.Author.Needs.{needs}
 use borrow.Author.Tests.{eq-eqb, ne-eqb, leb-true, leb-false, le-leb, lt-leb}
-use lib.ListN.{length, getD, take, drop, drop-of-length-le, length-take, length-drop}
-use lib.Seq.{drop-cons, drop-drop, take-take, getD-take, take-nil}
+use lib.ListN.{length, getD, take, drop, drop-of-length-le, length-take}
+use lib.Seq.{drop-cons, drop-drop, take-take, getD-take}
 use lib.Dec.{eqb, leb}
 use Rattle.machine.specs.Lists.{pick}
-use Rattle.format.specs.declared.Code.{Code}
-use Rattle.format.specs.declared.Code.the-variants.{Of, Unknown}
-use Rattle.reading.specs.State.{Kept, within}
-use Rattle.reading.specs.Step.{refused, isWhole, isDone, judgedLine, judgedFirst}
+use Rattle.reading.specs.State.{Kept}
+use Rattle.reading.specs.Step.{refused, isWhole, judgedFirst}
 use Rattle.reading.specs.Check.{linesFrom}
 use Rattle.reading.specs.declared.State.{State}
 use Rattle.reading.specs.declared.Judged.{Judged}

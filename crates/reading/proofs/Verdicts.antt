@@ -1,11 +1,11 @@
 -- What the judging of a first line can come to, by cases. Assumes nothing.
-use Prim.Native.Nat.{ℕ, zero, suc, _+_, _%_, _≤_, _<_}
+use Prim.Native.Nat.{ℕ}
 use mathlib.Core.Path.{_≡_, refl, sym, ap, _∙_, subst}
-use mathlib.Core.List.{List, [], _∷_}
-use mathlib.Core.Bool.{Bool, true, false, not, _&&_}
+use mathlib.Core.List.{List}
+use mathlib.Core.Bool.{Bool, true, false}
 use native.Mathlib.Omega.{arith}
-use borrow.Author.Tests.{eqb-true, ne-eqb, eq-eqb}
-use lib.ListN.{length, take}
+use borrow.Author.Tests.{eqb-true, eq-eqb}
+use lib.ListN.{take}
 use lib.Dec.{T, eqb}
 use Rattle.machine.specs.Lists.{pick}
 use Rattle.format.specs.declared.Kind.{Kind}
@@ -16,7 +16,7 @@ use Rattle.record.specs.Faults.{fieldsOf, faultOf}
 use Rattle.record.specs.declared.Fault.{Fault}
 use Rattle.reading.specs.State.{within}
 use Rattle.reading.specs.Order.{allowed}
-use Rattle.reading.specs.Step.{nextFor, refused, taken, judgedBy, judgedAs, judgedKind, judgedCode, judgedLine, isWhole, isDone, judgedFirst}
+use Rattle.reading.specs.Step.{nextFor, refused, taken, judgedAs, judgedKind, judgedCode, judgedLine, isWhole, isDone, judgedFirst}
 use Rattle.reading.specs.declared.State.{State}
 use Rattle.reading.specs.declared.Judged.{Judged}
 

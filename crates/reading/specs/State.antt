@@ -1,6 +1,6 @@
 -- The state before the first line, and 01's limits of a state.
 use Prim.Native.Nat.{ℕ, _≤_}
-use mathlib.Core.Bool.{Bool, true, false, _&&_}
+use mathlib.Core.Bool.{Bool, false, _&&_}
 use lib.Dec.{leb}
 use Rattle.format.specs.Rules.{maxItems, maxTotal, maxAccount, maxSequence}
 use Rattle.format.specs.declared.Group.the-variants.{Payments}

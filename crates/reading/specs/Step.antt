@@ -1,5 +1,5 @@
 -- What a line is answered, from every state: the answer, the state after it, and the record handed out.
-use Prim.Native.Nat.{ℕ, _+_, _%_}
+use Prim.Native.Nat.{ℕ, _+_}
 use mathlib.Core.List.{List, [], _∷_}
 use mathlib.Core.Bool.{Bool, true, false, _&&_}
 use lib.ListN.{length, getD, take}
@@ -15,12 +15,11 @@ use Rattle.format.specs.declared.Group.{Group}
 use Rattle.format.specs.declared.Code.{Code}
 use Rattle.format.specs.declared.Code.the-variants.{Of, Unknown}
 use Rattle.record.specs.Kinds.{codeOf}
-use Rattle.record.specs.Faults.{emptyBatch, fieldsOf, faultOf}
+use Rattle.record.specs.Faults.{fieldsOf, faultOf}
 use Rattle.record.specs.Read.{transactionFor, recordFor, textFor, noText}
 use Rattle.record.specs.declared.Batch.{Batch}
 use Rattle.record.specs.declared.Fault.{Fault}
 use Rattle.record.specs.declared.Transaction as items
-use Rattle.record.specs.declared.Record.{Record}
 use Rattle.record.specs.declared.Record.the-variants.{Nothing}
 use Rattle.reading.specs.State.{noItem, within}
 use Rattle.reading.specs.Order.{isStage, allowed}

@@ -1,22 +1,23 @@
 -- The first fault of each kind of record, from what calls answered of its fields. Assumes nothing.
 use Prim.Native.Nat.{ℕ, zero, suc, _+_, _-_, _/_, _<_, _≤_, zero-le}
-use mathlib.Core.Path.{_≡_, refl, sym, ap, _∙_, subst}
+use mathlib.Core.Path.{_≡_, refl, sym, ap, _∙_}
 use mathlib.Core.List.{List, [], _∷_}
-use mathlib.Core.Bool.{Bool, true, false, not, _&&_, _||_}
-use mathlib.Core.Option.{Option, none, some}
+use mathlib.Core.Bool.{Bool, true, false, not, _&&_}
+use mathlib.Core.Option.{Option}
 use native.Mathlib.Omega.{arith}
 use borrow.Author.Needs.{needs}
-use borrow.Author.Tests.{lt-ltb, le-ltb, le-leb, lt-leb, eq-eqb, ne-eqb, leb-true, leb-false, ltb-true, ltb-false, eqb-true, eqb-false}
+use borrow.Author.Tests.{lt-ltb, le-ltb, le-leb, lt-leb, eq-eqb, ne-eqb, leb-true, ltb-true, eqb-true}
 use lib.ListN.{length, take, drop, length-take}
 use lib.Seq.{take-take, drop-drop}
-use lib.Dec.{T, eqb, leb, ltb}
+use lib.Dec.{eqb, leb, ltb}
 use Rattle.machine.specs.Lists.{pick, all, same, isDigit, inRange}
 use Rattle.machine.specs.Digits.{valueOf}
+use Rattle.machine.proofs.Base.{and-first, and-second, true≢false}
 use Rattle.format.specs.Fields.{Field, numeric, filled, filler, width, wellFormed}
 use Rattle.format.specs.Answers.{wrongValue, wrongAccount, differs, aboveMaximum}
 use Rattle.format.specs.Records.{layout, Fields, group, sequence, unidentified, amount}
 use Rattle.format.specs.Rules.{maxAmount, maxTotal, maxItems, maxAccount, maxSequence, EUR, isGroup, isOrderingAccount, isIdentification, isOfDay, isNameCodeIn, isAccount, isOwnPayer, isOwnBeneficiary, sameGroup, typeOf}
-use Rattle.format.specs.Tests.{Test, test, Tests, isNext, groupTests, typeTests, transactionTests, batchHeaderTests, fileHeaderTests, orderingPartyTests, batchTrailerTests}
+use Rattle.format.specs.Tests.{Test, test, Tests, isNext, groupTests, typeTests, transactionTests, fileHeaderTests, orderingPartyTests, batchTrailerTests}
 use Rattle.format.specs.declared.Kind.{Kind}
 use Rattle.format.specs.declared.Kind.the-variants.{FileHeader, BatchHeaderB, BatchHeaderC, FixedDescription, OrderingParty, Transaction, NamePayer, CityPayer, PaymentReference, Description, NameBeneficiary, CityBeneficiary, BatchTrailer, FileTrailer}
 use Rattle.format.specs.declared.Group.{Group}
@@ -27,9 +28,6 @@ use Rattle.field.specs.declared.numbers.Digits.{Digits}
 use Rattle.field.specs.declared.numbers.Numeric.{Numeric}
 use Rattle.field.specs.Rows.{Row, row, cut, firstNo, fieldNo, rowsAt, checkRows, firstOr}
 use Rattle.field.specs.Leaf.{digitsOf, numericNo, numericOf, rangeTests, dateTests, isOwnIf, partyTests}
-use Rattle.field.proofs.Picks.{pick-yes, pick-no, first-holds, else-is}
-use Rattle.field.proofs.Forms.{form-stop, form-on}
-use Rattle.field.proofs.Numerics.{and-first, and-second, no-stop, no-on}
 use Rattle.field.proofs.Rows.{row-next, row-none, rows-passed, no-row, of-value, ranged-row, party-row}
 use Rattle.record.specs.declared.Fault.{Fault}
 use Rattle.record.specs.declared.Batch.{Batch}
@@ -241,9 +239,6 @@ all-taken g own l h t k k0 a a0 p p0 b b0 f f0 =
     (row-none _ _ (h ∙ rw (t, va, vp, vb)))))))
 
 -- ## Rows and what follows them
-
-true≢false : true ≡ false → ⊥
-true≢false e = subst T e tt
 
 split-rows : {A : Type 0} (f : ℕ → ℕ → A) (a : A) (c : ℕ) (fs : List Field) (t : Tests fs) (xs : List ℕ) (k : List Row) → firstOr f (rowsAt c fs t xs k) a ≡ firstOr f (rowsAt c fs t xs []) (firstOr f k a)
 unfolding firstOr

@@ -12,6 +12,7 @@ use lib.Seq.{paste, paste-zero, paste-suc}
 use lib.Dec.{T, leb, eqb}
 use Rattle.machine.specs.Lists.{pick, all, same, isDigit}
 use Rattle.machine.specs.Digits.{pow10, valueOf}
+use Rattle.machine.proofs.Base.{and-first, and-second, true≢false}
 use Rattle.format.specs.Fields.{Field, numeric, filled, optional, free, filler, width, wellFormed, readField}
 use Rattle.format.specs.Records.{layout}
 use Rattle.format.specs.Rules.{groupOf, typeOf}
@@ -25,7 +26,7 @@ use Rattle.format.proofs.Checks.{read-field}
 use Rattle.field.specs.declared.numbers.Digits.{Digits}
 use Rattle.field.specs.Rows.{Row, cut, firstNo, fieldNo, rowsAt, checkRows, fieldsAt, firstOr}
 use Rattle.field.specs.Leaf.{noDigits, digitsOf}
-use Rattle.field.proofs.Numerics.{and-first, and-second, digits-are}
+use Rattle.field.proofs.Numerics.{digits-are}
 use Rattle.record.specs.Faults.{faultAt, noFault, firstFault, fieldsOf, testsFor, maximaFor, faultOf}
 use Rattle.record.specs.Read.{typeOr, recordFor, noText, padded, textFor, valueIn, valuesAt, valuesOf, headerFor}
 use Rattle.record.specs.declared.Fault.{Fault}
@@ -115,21 +116,18 @@ narrow-rest (optional w) fs h = h
 narrow-rest (free w) fs h = h
 narrow-rest (filler w) fs h = h
 
-true≢false : true ≡ false → ⊥
-true≢false e = subst T e tt
-
-is-formed : (f : Field) (ts : List Test) (l : List ℕ) → fieldNo f ts l ≡ 0 → wellFormed f l ≡ true
+pub is-formed : (f : Field) (ts : List Test) (l : List ℕ) → fieldNo f ts l ≡ 0 → (wellFormed f l ≡ true) × (firstNo ts ≡ 0)
 unfolding fieldNo pick
 is-formed f ts l z = by (wellFormed f l) z
   where
-    by : (q : Bool) → pick q (firstNo ts) 4 ≡ 0 → q ≡ true
-    by true e = refl
+    by : (q : Bool) → pick q (firstNo ts) 4 ≡ 0 → (q ≡ true) × (firstNo ts ≡ 0)
+    by true e = (refl, e)
     by false e = absurd (omega arith)
 
 formed-field : (f : Field) (ts : List Test) (m : List ℕ) → narrow (f ∷ []) ≡ true → fieldNo f ts (take (width f) m) ≡ 0 → valueIn f (take (width f) m) ≡ readField f (take (width f) m)
 formed-field (numeric w) ts m h z =
     let b : length (take w m) ≤ 18 = rw length-take (omega (arith, leb-true w 18 (and-first (leb w 18) true h))) in
-    sym (ap (λ (d : Digits). d .value) (digits-are (take w m) b (is-formed (numeric w) ts (take w m) z) refl))
+    sym (ap (λ (d : Digits). d .value) (digits-are (take w m) b (is-formed (numeric w) ts (take w m) z .0) refl))
 formed-field (filled w) ts m h z = refl
 formed-field (optional w) ts m h z = refl
 formed-field (free w) ts m h z = refl

@@ -10,11 +10,11 @@ use lib.ListN.{length, take, drop, take-append-drop, length-append}
 use lib.Seq.{take-at, drop-at, length-take-le}
 use lib.Dec.{T, eqb}
 use Rattle.machine.specs.Lists.{pick}
+use Rattle.machine.proofs.Base.{and-first, true≢false}
 use Rattle.format.specs.Records.{Fields}
 use Rattle.format.specs.declared.Kind.{Kind}
 use Rattle.format.specs.declared.Kind.the-variants.{FileHeader, BatchHeaderB, BatchHeaderC, FixedDescription, OrderingParty, Transaction, NamePayer, CityPayer, PaymentReference, Description, NameBeneficiary, CityBeneficiary, BatchTrailer, FileTrailer}
 use Rattle.format.specs.declared.Code.the-variants.{Of}
-use Rattle.field.proofs.Numerics.{and-first}
 use Rattle.record.specs.Faults.{fieldsOf}
 use Rattle.record.specs.Read.{recordFor}
 use Rattle.reading.specs.State.{startState, isKept, within}
@@ -38,7 +38,7 @@ use Rattle.theorem.proofs.Meaning.{means}
 use Rattle.rewriting.specs.Cities.{isCityKind, isCity, keptLine, keptFrom, withoutCities}
 use Rattle.rewriting.specs.Promises.{noCityFrom, Rewrites, ended, city, written, Again, Promised}
 use Rattle.rewriting.specs.declared.Rewritten.{Rewritten}
-use Rattle.rewriting.proofs.Behind.{true≢false, Behind, alike, within-behind, Taken, takes, taken-too, behind-too, behind-city, city-kind}
+use Rattle.rewriting.proofs.Behind.{Behind, alike, within-behind, Taken, takes, taken-too, behind-too, behind-city, city-kind}
 
 -- ## A line kept or not
 

@@ -7,8 +7,9 @@ use native.Mathlib.Omega.{arith}
 use borrow.Author.Tests.{eq-eqb, le-leb}
 use lib.ListN.{take}
 use lib.Seq.{take-take}
-use lib.Dec.{T, eqb, leb, ltb}
+use lib.Dec.{eqb, leb, ltb}
 use Rattle.machine.specs.Lists.{pick}
+use Rattle.machine.proofs.Base.{and-second, true≢false}
 use Rattle.format.specs.Records.{Fields}
 use Rattle.format.specs.Rules.{sameGroup, isUnchecked}
 use Rattle.format.specs.declared.Kind.{Kind}
@@ -16,7 +17,6 @@ use Rattle.format.specs.declared.Kind.the-variants.{FileHeader, BatchHeaderB, B
 use Rattle.format.specs.declared.Group.{Group}
 use Rattle.format.specs.declared.Group.the-variants.{Payments, Debits}
 use Rattle.format.specs.declared.Code.the-variants.{Of}
-use Rattle.field.proofs.Numerics.{and-second}
 use Rattle.record.specs.Kinds.{codeOf}
 use Rattle.record.specs.Faults.{fieldsOf, faultOf}
 use Rattle.record.specs.Read.{transactionFor}
@@ -31,9 +31,6 @@ use Rattle.reading.specs.declared.Judged.{Judged}
 use Rattle.reading.proofs.Limits.{within-line}
 use Rattle.reading.proofs.Verdicts.{First, beyond, halted, moved, first}
 use Rattle.rewriting.specs.Cities.{isCityKind, isCityCode, isCity}
-
-pub true≢false : true ≡ false → ⊥
-true≢false e = subst T e tt
 
 -- ## The two states
 

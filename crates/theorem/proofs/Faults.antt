@@ -16,7 +16,7 @@ use Rattle.format.specs.Tests.{Test, test, Check, check, Tests, batchHeaderTest
 use Rattle.format.specs.declared.Kind.{Kind}
 use Rattle.format.specs.declared.Kind.the-variants.{FileHeader, BatchHeaderB, BatchHeaderC, FixedDescription, OrderingParty, Transaction, NamePayer, CityPayer, PaymentReference, Description, NameBeneficiary, CityBeneficiary, BatchTrailer, FileTrailer}
 use Rattle.format.specs.declared.Group.{Group}
-use Rattle.format.proofs.Checks.{judge, Pass, Hold, Holds, fieldChecks, lineChecks}
+use Rattle.format.proofs.Checks.{judge, Pass, Holds, fieldChecks, lineChecks, field-passed}
 use Rattle.format.proofs.Reader.{State, begin}
 use Rattle.field.specs.Rows.{Row, row, cut, firstNo, fieldNo, rowsAt, checkRows, fieldsAt, firstOr}
 use Rattle.record.specs.declared.Fault.{Fault}
@@ -153,13 +153,9 @@ module _ (after : State) where
 
 -- ## A line without a fault passes the tests of its fields
 
-tests-hold : (c : ℕ) (ts : List Test) (cs : List Check) → Pass (fieldChecks c ts cs) → Hold ts × Pass cs
-tests-hold c [] cs p = (tt, p)
-tests-hold c (test b n ∷ ts) cs p = let r = tests-hold c ts cs (p .1) in ((p .0, r .0), r .1)
-
 all-hold : (c : ℕ) (fs : List Field) (t : Tests fs) (l : List ℕ) (cs : List Check) → Pass (lineChecks c fs t l cs) → Holds fs t
 all-hold c [] t l cs p = tt
-all-hold c (f ∷ fs) t l cs p = let r = tests-hold c (t .0) (lineChecks (c + width f) fs (t .1) (drop (width f) l) cs) (p .1) in (r .0, all-hold (c + width f) fs (t .1) (drop (width f) l) cs (r .1))
+all-hold c (f ∷ fs) t l cs p = let r = field-passed c (t .0) (lineChecks (c + width f) fs (t .1) (drop (width f) l) cs) (p .1) in (r .0, all-hold (c + width f) fs (t .1) (drop (width f) l) cs (r .1))
 
 pub faultless : (said : Bool) (g : Group) (b : Batch) (k : Kind) (line : List ℕ) → faultOf said g b k line .number ≡ 0 → Holds (layout k) (testsFor said g b k (fieldsOf k line))
 faultless said g b k line e = by (same-faults begin said g b k line) e

@@ -10,8 +10,8 @@ use lib.ListN.{length, getD, take, drop, take-append-drop, length-drop}
 use lib.Seq.{take-all, take-add, take-take, drop-cons, drop-drop, length-take-le}
 use lib.Dec.{T, eqb, leb}
 use Rattle.machine.specs.Lists.{pick, same}
-use Rattle.machine.proofs.Base.{of-eq, same→eq}
-use Rattle.format.specs.Fields.{Field, width, widths, wellFormed, writeFields, Fits}
+use Rattle.machine.proofs.Base.{and-first, and-second, true≢false, of-eq, same→eq}
+use Rattle.format.specs.Fields.{Field, width, widths, writeFields, Fits}
 use Rattle.format.specs.Records.{layout, code, Fields}
 use Rattle.format.specs.Tests.{Test, test, Tests, groupTests}
 use Rattle.format.specs.declared.Kind.{Kind}
@@ -22,33 +22,24 @@ use Rattle.format.specs.declared.Code.the-variants.{Of, Unknown}
 use Rattle.format.proofs.Checks.{Hold, Holds, read-field}
 use Rattle.format.proofs.Link.{line-widths}
 use Rattle.field.specs.Rows.{Row, cut, firstNo, fieldNo, rowsAt, checkRows, fieldsAt, firstOr}
-use Rattle.field.proofs.Numerics.{Numbered, and-first, and-second}
+use Rattle.field.proofs.Numerics.{Numbered}
 use Rattle.record.specs.Kinds.{codeOf, debitCode, batchCode, fileCode}
 use Rattle.record.specs.Faults.{faultAt, noFault, firstFault, fieldsOf, groupSaid, testsFor, maximaFor, faultOf}
 use Rattle.record.specs.Read.{recordFor, textFor}
 use Rattle.record.specs.declared.Batch.{Batch}
 use Rattle.record.specs.declared.Fault.{Fault}
+use Rattle.record.proofs.Reading.{is-formed}
 use Rattle.reading.specs.State.{within}
 use Rattle.reading.specs.Step.{nextFor, refused, judgedLine, isWhole, isDone, judgedFirst, readBy, stepAt}
 use Rattle.reading.specs.declared.State.{State}
 use Rattle.reading.specs.declared.Judged.{Judged}
 use Rattle.reading.specs.declared.LineRead.{LineRead}
+use Rattle.reading.proofs.Answers.{step-first}
 use Rattle.reading.proofs.Running.{first-52}
 use Rattle.reading.proofs.Verdicts.{First, beyond, halted, moved, first}
 use Rattle.writer.specs.Encoding.{lineEnd}
 
-true≢false : true ≡ false → ⊥
-true≢false e = subst T e tt
-
 -- ## Rows that all passed
-
-formed : (f : Field) (ts : List Test) (l : List ℕ) → fieldNo f ts l ≡ 0 → (wellFormed f l ≡ true) × (firstNo ts ≡ 0)
-unfolding fieldNo pick
-formed f ts l z = by (wellFormed f l) z
-  where
-    by : (q : Bool) → pick q (firstNo ts) 4 ≡ 0 → (q ≡ true) × (firstNo ts ≡ 0)
-    by true e = (refl, e)
-    by false e = absurd (omega arith)
 
 none-fails : (ts : List Test) → Numbered ts → firstNo ts ≡ 0 → Hold ts
 unfolding pick
@@ -79,7 +70,7 @@ faultless c (f ∷ fs) t xs k p h n z = by (eqb no 0) refl (faultless (c + width
 
     by : (q : Bool) → eqb no 0 ≡ q → (rest .number ≡ 0 → Faultless (c + width f) fs (t .1) xs) → pick q rest (faultAt c no) .number ≡ 0 → Faultless c (f ∷ fs) t xs
     by true e again y =
-        let a = formed f (t .0) (cut c (width f) xs) (eqb-true no 0 e) in
+        let a = is-formed f (t .0) (cut c (width f) xs) (eqb-true no 0 e) in
         let long : length (cut c (width f) xs) ≡ width f = length-take-le (width f) (drop (c - 1) xs) (rw length-drop (omega arith)) in
         let m = read-field f (cut c (width f) xs) long (of-eq _ (a .0)) in
         let r = again y in
@@ -228,11 +219,6 @@ by-first s xs j (moved w k c a f) h z e =
 pub step-answer : (line : List ℕ) (c : Code) (j : Judged) → readBy line c j .answer ≡ j .number
 step-answer line (Of k) j = refl
 step-answer line Unknown j = refl
-
-pub step-first : (s : State) (xs : List ℕ) → 0 < length xs → stepAt s xs ≡ readBy (take 50 xs) (judgedFirst s xs .code) (judgedFirst s xs)
-unfolding stepAt
-step-first s [] h = absurd (omega arith)
-step-first s (x ∷ xs) h = refl
 
 pub accepts : (s : State) (xs : List ℕ) → 0 < length xs → stepAt s xs .answer ≡ 0 → Accepted s xs
 accepts s xs h z =

@@ -1,5 +1,5 @@
 -- READ, THEN WRITTEN: an accepted line that is no city is what is written of its record and text. Assumes nothing.
-use Prim.Native.Nat.{ℕ, _+_, _-_, _≤_, _<_}
+use Prim.Native.Nat.{ℕ, _-_, _≤_, _<_}
 use mathlib.Core.Path.{_≡_, refl, sym, ap, ap₂, _∙_}
 use mathlib.Core.List.{List, [], _∷_, _++_}
 use mathlib.Core.Bool.{Bool, true, false, not, _||_}
@@ -37,7 +37,7 @@ use Rattle.writer.specs.Promises.{entryOf}
 use Rattle.writer.specs.declared.Entry.{Entry}
 use Rattle.writer.specs.declared.Entry.the-variants.{FileHeader, BatchHeader, FixedDescription, OrderingParty, Item, NamePayer, PaymentReference, Description, NameBeneficiary, BatchTrailer, FileTrailer}
 use Rattle.writer.proofs.Building.{exact}
-use Rattle.writer.proofs.Accepting.{Accepted, accepts, accepted-line}
+use Rattle.writer.proofs.Accepting.{accepts, accepted-line}
 use Rattle.writer.proofs.Back.{yes, padded-is}
 
 -- ## Fields

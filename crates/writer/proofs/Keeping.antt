@@ -16,7 +16,7 @@ use Rattle.reading.specs.declared.State.{State}
 use Rattle.reading.specs.declared.LineRead.{LineRead}
 use Rattle.writer.specs.Entries.{lineFor}
 use Rattle.writer.specs.Writing.{answered, writtenBy, roomBy, writtenOf, roomOf}
-use Rattle.writer.specs.Promises.{recordOf, entryOf, ReadAsWritten, WrittenAsRead, ReadsBack, WritesAgain}
+use Rattle.writer.specs.Promises.{recordOf, entryOf, ReadsBack, WritesAgain}
 use Rattle.writer.specs.declared.Entry.{Entry}
 use Rattle.writer.specs.declared.Written.{Written}
 use Rattle.writer.proofs.Placing.{answer-via, room-via}

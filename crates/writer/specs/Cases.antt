@@ -7,8 +7,6 @@ use lib.ListN.{replicate}
 use Rattle.machine.specs.Lists.{spaces}
 use Rattle.format.specs.declared.Group.the-variants.{Payments}
 use Rattle.format.specs.declared.TransactionType.the-variants.{Salary}
-use Rattle.record.specs.declared.Batch.{Batch}
-use Rattle.record.specs.declared.Transaction.{Transaction}
 use Rattle.reading.specs.State.{startState}
 use Rattle.reading.specs.declared.Stage.{Stage}
 use Rattle.reading.specs.declared.Stage.the-variants as stage
