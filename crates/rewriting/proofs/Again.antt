@@ -35,10 +35,10 @@ use Rattle.writer.specs.declared.Written.{Written}
 use Rattle.writer.proofs.Accepting.{step-front}
 use Rattle.writer.proofs.Again.{written-again}
 use Rattle.theorem.proofs.Meaning.{means}
-use Rattle.rewriting.specs.Cities.{isCityKind, isCity, keptLine, keptFrom, withoutCities}
+use Rattle.rewriting.specs.Cities.{isCity, keptLine, keptFrom, withoutCities}
 use Rattle.rewriting.specs.Promises.{noCityFrom, Rewrites, ended, city, written, Again, Promised}
 use Rattle.rewriting.specs.declared.Rewritten.{Rewritten}
-use Rattle.rewriting.proofs.Behind.{Behind, alike, within-behind, Taken, takes, taken-too, behind-too, behind-city, city-kind}
+use Rattle.rewriting.proofs.Behind.{isCityKind, Behind, alike, within-behind, Taken, takes, taken-too, behind-too, behind-city, city-kind}
 
 -- ## A line kept or not
 

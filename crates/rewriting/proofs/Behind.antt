@@ -2,15 +2,15 @@
 use Prim.Native.Nat.{ℕ, _+_, _≤_}
 use mathlib.Core.Path.{_≡_, refl, sym, ap, _∙_, subst}
 use mathlib.Core.List.{List}
-use mathlib.Core.Bool.{Bool, true, false, not, _&&_}
+use mathlib.Core.Bool.{Bool, true, false, not, _&&_, _||_}
 use native.Mathlib.Omega.{arith}
 use borrow.Author.Tests.{eq-eqb, le-leb}
 use lib.ListN.{take}
 use lib.Seq.{take-take}
 use lib.Dec.{eqb, leb, ltb}
-use Rattle.machine.specs.Lists.{pick}
+use Rattle.machine.specs.Lists.{pick, same}
 use Rattle.machine.proofs.Base.{and-second, true≢false}
-use Rattle.format.specs.Records.{Fields}
+use Rattle.format.specs.Records.{Fields, code}
 use Rattle.format.specs.Rules.{sameGroup, isUnchecked}
 use Rattle.format.specs.declared.Kind.{Kind}
 use Rattle.format.specs.declared.Kind.the-variants.{FileHeader, BatchHeaderB, BatchHeaderC, FixedDescription, OrderingParty, Transaction, NamePayer, CityPayer, PaymentReference, Description, NameBeneficiary, CityBeneficiary, BatchTrailer, FileTrailer}
@@ -30,7 +30,26 @@ use Rattle.reading.specs.declared.State.{State}
 use Rattle.reading.specs.declared.Judged.{Judged}
 use Rattle.reading.proofs.Limits.{within-line}
 use Rattle.reading.proofs.Verdicts.{First, beyond, halted, moved, first}
-use Rattle.rewriting.specs.Cities.{isCityKind, isCityCode, isCity}
+use Rattle.writer.proofs.Accepting.{code-is}
+use Rattle.rewriting.specs.Cities.{isCity}
+
+-- ## Cities
+
+abbrev pub isCityKind : Kind → Bool
+isCityKind FileHeader = false
+isCityKind BatchHeaderB = false
+isCityKind BatchHeaderC = false
+isCityKind FixedDescription = false
+isCityKind OrderingParty = false
+isCityKind Transaction = false
+isCityKind NamePayer = false
+isCityKind CityPayer = true
+isCityKind PaymentReference = false
+isCityKind Description = false
+isCityKind NameBeneficiary = false
+isCityKind CityBeneficiary = true
+isCityKind BatchTrailer = false
+isCityKind FileTrailer = false
 
 -- ## The two states
 
@@ -217,6 +236,26 @@ module _ {s w : State} {xs : List ℕ} (b : Behind s w) (t : Taken s xs) where
       subst (Behind (nextFor s (t .kind) (fieldsOf (t .kind) (take 50 xs)))) (sym (b .is))
       (city-behind s (b .line) (b .name) (b .small) (b .like) (t .kind) c (t .placed) (fieldsOf (t .kind) (take 50 xs)))
 
+city-code : (k : Kind) → (same (code k) (code CityPayer) || same (code k) (code CityBeneficiary)) ≡ isCityKind k
+unfolding same
+city-code FileHeader = refl
+city-code BatchHeaderB = refl
+city-code BatchHeaderC = refl
+city-code FixedDescription = refl
+city-code OrderingParty = refl
+city-code Transaction = refl
+city-code NamePayer = refl
+city-code CityPayer = refl
+city-code PaymentReference = refl
+city-code Description = refl
+city-code NameBeneficiary = refl
+city-code CityBeneficiary = refl
+city-code BatchTrailer = refl
+city-code FileTrailer = refl
+
 pub city-kind : {s : State} (xs : List ℕ) (t : Taken s xs) → isCity (take 52 xs) ≡ isCityKind (t .kind)
 unfolding isCity
-city-kind xs t = ap (λ c. isCityCode (codeOf c)) (take-take 5 52 xs (omega arith) ∙ sym (take-take 5 50 xs (omega arith))) ∙ ap isCityCode (t .coded)
+city-kind xs t =
+    ap (λ c. same c (code CityPayer) || same c (code CityBeneficiary))
+    (take-take 5 52 xs (omega arith) ∙ sym (take-take 5 50 xs (omega arith)) ∙ code-is (take 5 (take 50 xs)) (t .kind) (t .coded))
+    ∙ city-code (t .kind)

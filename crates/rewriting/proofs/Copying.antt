@@ -2,21 +2,19 @@
 use Prim.Native.Nat.{ℕ, zero, suc, _+_, _-_, _≤_, _<_}
 use mathlib.Core.Path.{_≡_, refl, sym, ap, ap₂, _∙_}
 use mathlib.Core.List.{List, [], _∷_, _++_, append-assoc, append-nil}
-use mathlib.Core.Bool.{Bool, true, false}
+use mathlib.Core.Bool.{Bool, true, false, _||_}
 use native.Mathlib.Omega.{arith}
 use native.Mathlib.Numerals.{add-one}
 use borrow.Author.Needs.{needs}
 use borrow.Author.Tests.{eq-eqb, ne-eqb, le-leb, lt-leb}
 use lib.ListN.{length, getD, set, take, drop, length-set, length-append, length-take, length-drop, drop-of-length-le}
 use lib.Seq.{paste, paste-zero, paste-suc, take-all, take-at, drop-drop, drop-append-add}
-use Rattle.machine.specs.Lists.{pick}
-use Rattle.format.specs.declared.Kind.{Kind}
-use Rattle.format.specs.declared.Code.{Code}
-use Rattle.format.specs.declared.Code.the-variants.{Of, Unknown}
-use Rattle.record.specs.Kinds.{codeOf}
+use Rattle.machine.specs.Lists.{pick, same}
+use Rattle.format.specs.Records.{code}
+use Rattle.format.specs.declared.Kind.the-variants.{CityPayer, CityBeneficiary}
 use Rattle.reading.specs.Check.{checkOf}
 use Rattle.reading.specs.declared.Answer.{Answer}
-use Rattle.rewriting.specs.Cities.{isCityKind, isCityCode, isCity, keptLine, keptFrom, withoutCities}
+use Rattle.rewriting.specs.Cities.{isCity, keptLine, keptFrom, withoutCities}
 use Rattle.rewriting.specs.Rewriting.{told, rewrittenBy, roomBy, rewrittenOf, roomAfter}
 use Rattle.rewriting.specs.declared.Rewritten.{Rewritten}
 
@@ -68,15 +66,11 @@ pub kept-no : {q : Bool} (line : List ℕ) → q ≡ isCity line → q ≡ false
 unfolding keptLine pick
 kept-no line e h = rw (← e, h)
 
-pub city-of : {c : Code} {q : Bool} (line : List ℕ) (k : Kind) → c ≡ codeOf (take 5 line) → c ≡ Of k → q ≡ isCityKind k → q ≡ isCity line
+pub city-either : {c : List ℕ} {p q : Bool} (line : List ℕ) → c ≡ take 5 (drop 0 line) → p ≡ same c (code CityPayer) → q ≡ same c (code CityBeneficiary) → (p || q) ≡ isCity line
 unfolding isCity
-city-of line k e h p = p ∙ ap isCityCode (sym h ∙ e)
+city-either line e h k = ap₂ (λ x y. x || y) (h ∙ ap (λ c. same c (code CityPayer)) e) (k ∙ ap (λ c. same c (code CityBeneficiary)) e)
 
-pub city-not : {c : Code} (line : List ℕ) → c ≡ codeOf (take 5 line) → c ≡ Unknown → false ≡ isCity line
-unfolding isCity
-city-not line e h = ap isCityCode (sym h ∙ e)
-
-pub ruleset cities = (city-of, city-not, kept-yes, kept-no, needs)
+pub ruleset cities = (city-either, kept-yes, kept-no, needs)
 
 -- ## Counting
 

@@ -1,38 +1,15 @@
 -- A file without its city records.
 use Prim.Native.Nat.{ℕ, zero, suc}
 use mathlib.Core.List.{List, [], _∷_, _++_}
-use mathlib.Core.Bool.{Bool, true, false}
+use mathlib.Core.Bool.{Bool, _||_}
 use lib.ListN.{take}
-use Rattle.machine.specs.Lists.{pick}
-use Rattle.format.specs.declared.Kind.{Kind}
-use Rattle.format.specs.declared.Kind.the-variants.{FileHeader, BatchHeaderB, BatchHeaderC, FixedDescription, OrderingParty, Transaction, NamePayer, CityPayer, PaymentReference, Description, NameBeneficiary, CityBeneficiary, BatchTrailer, FileTrailer}
-use Rattle.format.specs.declared.Code.{Code}
-use Rattle.format.specs.declared.Code.the-variants.{Of, Unknown}
-use Rattle.record.specs.Kinds.{codeOf}
-
-abbrev pub isCityKind : Kind → Bool
-isCityKind FileHeader = false
-isCityKind BatchHeaderB = false
-isCityKind BatchHeaderC = false
-isCityKind FixedDescription = false
-isCityKind OrderingParty = false
-isCityKind Transaction = false
-isCityKind NamePayer = false
-isCityKind CityPayer = true
-isCityKind PaymentReference = false
-isCityKind Description = false
-isCityKind NameBeneficiary = false
-isCityKind CityBeneficiary = true
-isCityKind BatchTrailer = false
-isCityKind FileTrailer = false
-
-abbrev pub isCityCode : Code → Bool
-isCityCode (Of k) = isCityKind k
-isCityCode Unknown = false
+use Rattle.machine.specs.Lists.{pick, same}
+use Rattle.format.specs.Records.{code}
+use Rattle.format.specs.declared.Kind.the-variants.{CityPayer, CityBeneficiary}
 
 -- by the code and variant that a line begins with
 unfoldable pub isCity : List ℕ → Bool
-isCity line = isCityCode (codeOf (take 5 line))
+isCity line = same (take 5 line) (code CityPayer) || same (take 5 line) (code CityBeneficiary)
 
 -- a line, or nothing of a city's
 unfoldable pub keptLine : List ℕ → List ℕ

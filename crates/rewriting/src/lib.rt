@@ -6,13 +6,11 @@ ghost use mathlib.Core.List.{_++_};
 ghost use Prim.Native.Nat.{_+_, _≤_};
 ghost use lib.ListN.{length, drop};
 ghost use lib.Seq.{paste};
-ghost use Rattle.rewriting.specs.Cities.{isCityKind, isCity, keptLine, withoutCities};
+ghost use Rattle.rewriting.specs.Cities.{isCity, keptLine, withoutCities};
 ghost use Rattle.rewriting.specs.Promises.{Promised};
 ghost use Rattle.rewriting.specs.Rewriting.{rewrittenOf, roomAfter};
+use field::bytes::is_same;
 use field::bytes::part;
-use format::Code;
-use format::Kind;
-use record::kinds::code_of;
 
 // What a file to write again is answered, and how many bytes were written.
 pub struct Rewritten {
@@ -22,35 +20,12 @@ pub struct Rewritten {
     pub written: usize,
 }
 
-fn is_city_kind(k: Kind) -> bool
-    ensures { λ r. ⌜ r ≡ isCityKind k ⌝ }
-{
-    match k {
-        Kind::FileHeader => false,
-        Kind::BatchHeaderB => false,
-        Kind::BatchHeaderC => false,
-        Kind::FixedDescription => false,
-        Kind::OrderingParty => false,
-        Kind::Transaction => false,
-        Kind::NamePayer => false,
-        Kind::CityPayer => true,
-        Kind::PaymentReference => false,
-        Kind::Description => false,
-        Kind::NameBeneficiary => false,
-        Kind::CityBeneficiary => true,
-        Kind::BatchTrailer => false,
-        Kind::FileTrailer => false,
-    }
-}
-
+// By its code and variant. (The reader's own look-up is not called: a second caller would slow the reading of every line.)
 fn is_city(line: &[u8]) -> bool
     ensures { λ r. ⌜ r ≡ isCity (now (line .entry)) ⌝ }
 {
-    let code = code_of(line);
-    match code {
-        Code::Of(k) => is_city_kind(k),
-        Code::Unknown => false,
-    }
+    let code = part(line, 0, 5);
+    is_same(code, b"0113B") | is_same(code, b"0173B")
 }
 
 // A line, or nothing of a city's.

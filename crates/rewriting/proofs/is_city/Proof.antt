@@ -7,10 +7,10 @@ pub is-city-spec : {M : Type 1} → statement M
 is-city-spec =
     tie.close
     (tie.spec
-    (λ c κs. search needs)  -- code-of-requires
-    (λ c. search needs)  -- enum-known-code
-    (λ c κs. search needs)  -- is-city-kind-requires
-    (λ c. search needs)  -- enum-told
+    (λ c κs. search needs)  -- part-requires
+    (λ c. search needs)  -- slice-aggregate-is-same
+    (λ c κs. search needs)  -- is-same-requires
+    (λ c. search needs)  -- slice-aggregate-is-same-2
+    (λ c κs. search needs)  -- is-same-requires-2
     (λ c. search cities depth 20 fits 10000)  -- returns
-    (λ c. search cities depth 20 fits 10000)  -- returns-2
     )
