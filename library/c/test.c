@@ -1,0 +1,89 @@
+/* Answers of document 01 through the C interface, and what happens to places and rooms that are too small. */
+#include "clieop.h"
+
+#include <stdio.h>
+#include <string.h>
+
+#define LINES 9
+
+static const char *const example[LINES] = {
+    "0001A150309CLIEOP03NACHT15011",
+    "0010B0001234567890001EUR",
+    "0020ASALARIS MAART",
+    "0030B1000000                                   P",
+    "0100A000800000015000001234567890111111110",
+    "0100A000300000000255001234567890000001234",
+    "0170BJ DE VRIES",
+    "9990A00000000000015255003580259220000002",
+    "9999A",
+};
+
+static uint8_t file[LINES * 52 + 1];
+static int failed;
+
+static void fill(void)
+{
+    for (int i = 0; i < LINES; i++) {
+        char line[53];
+        snprintf(line, sizeof line, "%-50s\r\n", example[i]);
+        memcpy(file + 52 * i, line, 52);
+    }
+    file[LINES * 52] = 26;
+}
+
+static void expect(const char *what, uint64_t got, uint64_t wanted)
+{
+    if (got == wanted)
+        return;
+    printf("%s: %llu, not %llu\n", what, (unsigned long long)got, (unsigned long long)wanted);
+    failed++;
+}
+
+static void check(void)
+{
+    uint64_t place[3] = {7, 7, 7};
+    expect("accepted", clieop_check(file, LINES * 52, place, 3), 0);
+    expect("its number of lines", place[0], LINES);
+    expect("its column", place[1], 0);
+    expect("the number after", place[2], 7);
+    expect("a byte after the trailer", clieop_check(file, LINES * 52 + 1, place, 2), 11);
+    expect("its line", place[0], LINES + 1);
+    expect("cut in line 3", clieop_check(file, 2 * 52 + 30, place, 2), 1);
+    expect("its line", place[0], 3);
+    expect("nothing", clieop_check(file, 0, place, 2), 10);
+    expect("its line", place[0], 1);
+}
+
+static void small_place(void)
+{
+    uint64_t place[1] = {7};
+    expect("accepted, without room", clieop_check(file, LINES * 52, place, 1), 12);
+    expect("refused, without room", clieop_check(file, 52, place, 1), 10);
+    expect("the place", place[0], 7);
+}
+
+static void rewrite(void)
+{
+    static uint8_t out[LINES * 52 + 1];
+    uint64_t place[3];
+    out[LINES * 52] = 7;
+    expect("no room", clieop_rewrite(file, LINES * 52, out, LINES * 52 - 1, place, 3), 12);
+    expect("its first byte", out[0], 0);
+    expect("no place", clieop_rewrite(file, LINES * 52, out, sizeof out, place, 2), 12);
+    expect("its first byte", out[0], 0);
+    expect("written again", clieop_rewrite(file, LINES * 52, out, sizeof out, place, 3), 0);
+    expect("its line", place[0], LINES);
+    expect("its bytes", place[2], LINES * 52);
+    expect("the same bytes", (uint64_t)memcmp(out, file, LINES * 52), 0);
+    expect("the byte after", out[LINES * 52], 7);
+}
+
+int main(void)
+{
+    fill();
+    check();
+    small_place();
+    rewrite();
+    printf("%s\n", failed ? "the C interface failed" : "the C interface: passed");
+    return failed != 0;
+}
