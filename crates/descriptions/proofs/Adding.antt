@@ -20,7 +20,7 @@ take-spaces (suc n) zero h = absurd (omega arith)
 take-spaces (suc n) (suc m) h = ap (λ t. 32 ∷ t) (take-spaces n m (omega arith))
 
 -- a text filled with spaces is its bytes and then the spaces that are left
-filled-is : (n m : ℕ) (t : List ℕ) → n ≤ m → take n (t ++ spaces m) ≡ take n t ++ drop (length (take n t)) (spaces n)
+pub filled-is : (n m : ℕ) (t : List ℕ) → n ≤ m → take n (t ++ spaces m) ≡ take n t ++ drop (length (take n t)) (spaces n)
 filled-is zero m t h = refl
 filled-is (suc n) m [] h = take-spaces (suc n) m h
 filled-is (suc n) m (x ∷ t) h = ap (λ l. x ∷ l) (filled-is n m t (omega arith))

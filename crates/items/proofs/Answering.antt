@@ -1,0 +1,74 @@
+-- The answer to one who asks for an item, from what calls answered. Assumes nothing.
+use Prim.Native.Nat.{ℕ, _≤_, _<_}
+use mathlib.Core.Path.{_≡_, refl, sym, _∙_, ap, ap₂}
+use mathlib.Core.List.{List, _++_}
+use mathlib.Core.Bool.{Bool, true, false}
+use native.Mathlib.Omega.{arith}
+use borrow.Author.Needs.{needs}
+use borrow.Author.Tests.{eq-eqb, ne-eqb, le-leb, lt-leb}
+use lib.ListN.{length, drop}
+use Rattle.machine.specs.Lists.{pick}
+use Rattle.reading.specs.Check.{checkOf}
+use Rattle.reading.specs.declared.Answer.{Answer}
+use Rattle.descriptions.specs.Texts.{merged, limitFor}
+use Rattle.descriptions.specs.declared.Descriptions.{Descriptions}
+use Rattle.items.specs.Search.{noFields, started, afterLines}
+use Rattle.items.specs.Answering.{told, isFound, textsFound, answeredBy, roomBy, itemOf, roomAfter}
+use Rattle.items.specs.declared.ItemFields.{ItemFields}
+use Rattle.items.specs.declared.Found.{Found}
+use Rattle.items.specs.declared.Search.{Search}
+use Rattle.items.specs.declared.ItemRead.{ItemRead}
+
+pub told-made : {x y : ItemFields} (number line column : ℕ) → x ≡ y → told number line column x ≡ told number line column y
+told-made number line column e = rw e
+
+pub texts-via : {n : ℕ} {d : Descriptions} (f : Found) → n ≡ limitFor (f .referred) → d ≡ merged (f .fixed) (f .own) n → d .text ≡ textsFound f
+unfolding textsFound
+texts-via f e h = ap (λ (x : Descriptions). x .text) (h ∙ ap (merged (f .fixed) (f .own)) e)
+
+module _ (s : Search) (a : Answer) (room : ℕ) where
+  pub by-refusal : {w : ItemRead} → (a .number ≡ 0 → ⊥) → w ≡ told (a .number) (a .line) (a .column) noFields → w ≡ answeredBy s a room
+  unfolding answeredBy pick
+  by-refusal z h = h ∙ rw (ne-eqb _ _ z)
+
+  pub by-none : {w : ItemRead} {q : Bool} → a .number ≡ 0 → q ≡ isFound (s .found .fields .kind) → q ≡ false → w ≡ told 13 (a .line) 0 noFields → w ≡ answeredBy s a room
+  unfolding answeredBy pick
+  by-none z e f h = h ∙ rw (eq-eqb _ _ z, ← e, f)
+
+  pub by-room : {w : ItemRead} {q : Bool} → a .number ≡ 0 → q ≡ isFound (s .found .fields .kind) → q ≡ true → room < 128 → w ≡ told 12 (a .line) 0 noFields → w ≡ answeredBy s a room
+  unfolding answeredBy pick
+  by-room z e f l h = h ∙ rw (eq-eqb _ _ z, ← e, f, lt-leb 128 room l)
+
+  pub by-item : {q : Bool} → a .number ≡ 0 → q ≡ isFound (s .found .fields .kind) → q ≡ true → 128 ≤ room → told 0 (a .line) 0 (s .found .fields) ≡ answeredBy s a room
+  unfolding answeredBy pick
+  by-item z e f l = rw (eq-eqb _ _ z, ← e, f, le-leb 128 room l)
+
+module _ (s : Search) (a : Answer) (out : List ℕ) where
+  pub room-refused : (a .number ≡ 0 → ⊥) → out ≡ roomBy s a out
+  unfolding roomBy pick
+  room-refused z = rw (ne-eqb _ _ z)
+
+  pub room-none : {q : Bool} → a .number ≡ 0 → q ≡ isFound (s .found .fields .kind) → q ≡ false → out ≡ roomBy s a out
+  unfolding roomBy pick
+  room-none z e f = rw (eq-eqb _ _ z, ← e, f)
+
+  pub room-small : {q : Bool} → a .number ≡ 0 → q ≡ isFound (s .found .fields .kind) → q ≡ true → length out < 128 → out ≡ roomBy s a out
+  unfolding roomBy pick
+  room-small z e f l = rw (eq-eqb _ _ z, ← e, f, lt-leb 128 (length out) l)
+
+  pub room-filled : {o t : List ℕ} {q : Bool} → a .number ≡ 0 → q ≡ isFound (s .found .fields .kind) → q ≡ true → 128 ≤ length out → t ≡ textsFound (s .found) → length t ≡ 128 → o ≡ t ++ drop (length t) out → o ≡ roomBy s a out
+  unfolding roomBy pick
+  room-filled {o} {t} z e f l g n h = h ∙ ap (λ m. t ++ drop m out) n ∙ ap (λ y. y ++ drop 128 out) g ∙ rw (eq-eqb _ _ z, ← e, f, le-leb 128 (length out) l)
+
+pub ruleset rooms = (by-refusal, by-none, by-room, by-item, room-refused, room-none, room-small, room-filled, needs)
+
+-- ## The whole
+
+module _ {s t : Search} {a : Answer} (file : List ℕ) (batch item : ℕ) (e : a ≡ checkOf file) (f : s ≡ started batch item) (g : t ≡ afterLines s 0 file) where
+  pub item-via : {w : ItemRead} (room : ℕ) → w ≡ answeredBy t a room → w ≡ itemOf file batch item room
+  unfolding itemOf
+  item-via room h = h ∙ ap₂ (λ x y. answeredBy x y room) (g ∙ ap (λ x. afterLines x 0 file) f) e
+
+  pub room-via : {o : List ℕ} (out : List ℕ) → o ≡ roomBy t a out → o ≡ roomAfter file batch item out
+  unfolding roomAfter
+  room-via out h = h ∙ ap₂ (λ x y. roomBy x y out) (g ∙ ap (λ x. afterLines x 0 file) f) e

@@ -1,0 +1,167 @@
+-- The search after a line, from what calls answered. Assumes nothing.
+use Prim.Native.Nat.{ℕ, zero, suc, _+_, _-_, _≤_, _<_}
+use mathlib.Core.Path.{_≡_, refl, sym, _∙_, ap, ap₂}
+use mathlib.Core.List.{List, [], _∷_}
+use mathlib.Core.Bool.{Bool, true, false}
+use native.Mathlib.Omega.{arith}
+use borrow.Author.Needs.{needs}
+use borrow.Author.Tests.{eq-eqb, ne-eqb}
+use lib.ListN.{length, take, drop, length-drop, drop-of-length-le}
+use lib.Seq.{drop-drop}
+use lib.Dec.{eqb}
+use Rattle.machine.specs.Lists.{pick}
+use Rattle.format.specs.declared.Kind.{Kind}
+use Rattle.format.specs.declared.Kind.the-variants.{FixedDescription, Transaction, NamePayer, PaymentReference, Description, NameBeneficiary}
+use Rattle.format.specs.declared.Code.{Code}
+use Rattle.format.specs.declared.Code.the-variants.{Of, Unknown}
+use Rattle.record.specs.Kinds.{codeOf}
+use Rattle.record.specs.Read.{transactionFor, valuesOf}
+use Rattle.record.specs.declared.Transaction as items
+use Rattle.descriptions.specs.declared.Descriptions.{Descriptions}
+use Rattle.items.specs.Search.{noFields, nothingFound, withItem, withFixed, withOwn, withReference, withName, searching, finding, headed, opened, fixed, described, referred, named, afterFor, afterCode, afterLine, afterLines}
+use Rattle.items.specs.declared.ItemFields.{ItemFields}
+use Rattle.items.specs.declared.Found.{Found}
+use Rattle.items.specs.declared.Search.{Search}
+
+-- ## What is found
+
+abbrev finds : Descriptions → Descriptions → Bool → ItemFields → Found
+finds a b q x = record { fixed = a; own = b; referred = q; fields = x }
+
+pub found-made : {a b c d : Descriptions} {q : Bool} {x y : ItemFields} → a ≡ b → c ≡ d → x ≡ y → finds a c q x ≡ finds b d q y
+found-made e f g = rw (e, f, g)
+
+pub reference-made : {t : List ℕ} (f : Found) (u : List ℕ) → t ≡ u
+    → finds (f .fixed) (f .own) true (record { kind = f .fields .kind; amount = f .fields .amount; payer = f .fields .payer; beneficiary = f .fields .beneficiary; reference = t; name = f .fields .name })
+    ≡ finds (f .fixed) (f .own) true (record { kind = f .fields .kind; amount = f .fields .amount; payer = f .fields .payer; beneficiary = f .fields .beneficiary; reference = u; name = f .fields .name })
+reference-made f u e = rw e
+
+pub name-made : {t : List ℕ} (f : Found) (u : List ℕ) → t ≡ u
+    → finds (f .fixed) (f .own) (f .referred) (record { kind = f .fields .kind; amount = f .fields .amount; payer = f .fields .payer; beneficiary = f .fields .beneficiary; reference = f .fields .reference; name = t })
+    ≡ finds (f .fixed) (f .own) (f .referred) (record { kind = f .fields .kind; amount = f .fields .amount; payer = f .fields .payer; beneficiary = f .fields .beneficiary; reference = f .fields .reference; name = u })
+name-made f u e = rw e
+
+pub ruleset founds = (found-made, reference-made, name-made, needs)
+
+-- ## The search
+
+pub search-made : {b c i j : ℕ} {v w h : Bool} {f g : Found} → b ≡ c → i ≡ j → v ≡ w → f ≡ g → searching b i v h f ≡ searching c j w h g
+search-made d e k l = rw (d, e, k, l)
+
+module _ (s : Search) (t : items.Transaction) where
+  pub opened-here : {g : Found} → s .within ≡ true → s .items ≡ 1 → g ≡ withItem (s .found) t → searching (s .batches) 0 true true g ≡ opened s t
+  unfolding opened pick
+  opened-here w n e = rw (w, eq-eqb (s .items) 1 n, e)
+
+  pub opened-on : {n : ℕ} → s .within ≡ true → (s .items ≡ 1 → ⊥) → n ≡ s .items - 1 → searching (s .batches) n true false (s .found) ≡ opened s t
+  unfolding opened pick
+  opened-on w z e = rw (w, ne-eqb (s .items) 1 z, e)
+
+  pub opened-not : s .within ≡ false → s ≡ opened s t
+  unfolding opened pick
+  opened-not w = rw w
+
+pub ruleset opens = (opened-here, opened-on, opened-not, needs)
+
+module _ {x : Search} {g : Found} (s : Search) (t : List ℕ) (e : x ≡ finding s g) where
+  pub fixed-in : s .within ≡ true → g ≡ withFixed (s .found) t → x ≡ fixed s t
+  unfolding fixed pick
+  fixed-in w h = e ∙ rw (w, h)
+
+  pub described-in : s .here ≡ true → g ≡ withOwn (s .found) t → x ≡ described s t
+  unfolding described pick
+  described-in w h = e ∙ rw (w, h)
+
+  pub referred-in : s .here ≡ true → g ≡ withReference (s .found) t → x ≡ referred s t
+  unfolding referred pick
+  referred-in w h = e ∙ rw (w, h)
+
+  pub named-in : s .here ≡ true → g ≡ withName (s .found) t → x ≡ named s t
+  unfolding named pick
+  named-in w h = e ∙ rw (w, h)
+
+module _ (s : Search) (t : List ℕ) where
+  pub fixed-out : s .within ≡ false → s ≡ fixed s t
+  unfolding fixed pick
+  fixed-out w = rw w
+
+  pub described-out : s .here ≡ false → s ≡ described s t
+  unfolding described pick
+  described-out w = rw w
+
+  pub referred-out : s .here ≡ false → s ≡ referred s t
+  unfolding referred pick
+  referred-out w = rw w
+
+  pub named-out : s .here ≡ false → s ≡ named s t
+  unfolding named pick
+  named-out w = rw w
+
+pub ruleset texts = (fixed-in, described-in, referred-in, named-in, fixed-out, described-out, referred-out, named-out, needs)
+
+-- ## By the kind
+
+pub after-via : {x : Search} {k m : Kind} (s : Search) (line : List ℕ) → k ≡ m → x ≡ afterFor s m (valuesOf m line) → x ≡ afterFor s k (valuesOf k line)
+after-via s line e h = h ∙ ap (λ i. afterFor s i (valuesOf i line)) (sym e)
+
+module _ {x : Search} {k : Kind} {p : List ℕ} (s : Search) (line : List ℕ) where
+  pub fixed-via : k ≡ FixedDescription → p ≡ take 32 (drop 5 line) → x ≡ fixed s p → x ≡ afterFor s k (valuesOf k line)
+  fixed-via e f h = after-via s line e (h ∙ ap (fixed s) f)
+
+  pub described-via : k ≡ Description → p ≡ take 32 (drop 5 line) → x ≡ described s p → x ≡ afterFor s k (valuesOf k line)
+  described-via e f h = after-via s line e (h ∙ ap (described s) f)
+
+  pub referred-via : k ≡ PaymentReference → p ≡ take 16 (drop 5 line) → x ≡ referred s p → x ≡ afterFor s k (valuesOf k line)
+  referred-via e f h = after-via s line e (h ∙ ap (referred s) f)
+
+  pub payer-via : k ≡ NamePayer → p ≡ take 35 (drop 5 line) → x ≡ named s p → x ≡ afterFor s k (valuesOf k line)
+  payer-via e f h = after-via s line e (h ∙ ap (named s) f)
+
+  pub beneficiary-via : k ≡ NameBeneficiary → p ≡ take 35 (drop 5 line) → x ≡ named s p → x ≡ afterFor s k (valuesOf k line)
+  beneficiary-via e f h = after-via s line e (h ∙ ap (named s) f)
+
+pub opened-via : {x : Search} {k : Kind} {t : items.Transaction} (s : Search) (line : List ℕ) → k ≡ Transaction → t ≡ transactionFor (valuesOf Transaction line) → x ≡ opened s t → x ≡ afterFor s k (valuesOf k line)
+opened-via s line e f h = after-via s line e (h ∙ ap (opened s) f)
+
+pub ruleset kinds = (after-via, fixed-via, described-via, referred-via, payer-via, beneficiary-via, opened-via, needs)
+
+-- ## Lines
+
+module _ {c : Code} (s : Search) (line : List ℕ) (e : c ≡ codeOf (take 5 line)) where
+  pub line-of : {x : Search} (k : Kind) → c ≡ Of k → x ≡ afterFor s k (valuesOf k line) → x ≡ afterLine s line
+  unfolding afterLine
+  line-of k h p = p ∙ ap (afterCode s line) (sym h ∙ e)
+
+  pub line-not : c ≡ Unknown → s ≡ afterLine s line
+  unfolding afterLine
+  line-not h = ap (afterCode s line) (sym h ∙ e)
+
+pub skip : (s : Search) (k : ℕ) (xs : List ℕ) → afterLines s k xs ≡ afterLines s 0 (drop k xs)
+unfolding afterLines
+skip s zero xs = refl
+skip s (suc k) [] = refl
+skip s (suc k) (x ∷ xs) = skip s k xs
+
+pub first-line : (s : Search) (xs : List ℕ) → 0 < length xs → afterLines s 0 xs ≡ afterLines (afterLine s (take 52 xs)) 0 (drop 52 xs)
+unfolding afterLines
+first-line s [] h = absurd (omega arith)
+first-line s (x ∷ xs) h = skip (afterLine s (take 52 (x ∷ xs))) 51 xs
+
+-- what is left leads to what the whole leads to
+pub record Passing (s : Search) (bytes : List ℕ) (t : Search) (i : ℕ) : Type 0 where
+  pub is : afterLines t 0 (drop i bytes) ≡ afterLines s 0 bytes
+
+pub pass-none : (s : Search) (bytes : List ℕ) → Passing s bytes s 0
+pass-none s bytes = record { is = refl }
+
+module _ {s t : Search} {bytes : List ℕ} {i : ℕ} (c : Passing s bytes t i) where
+  pub pass-more : {p : List ℕ} {u : Search} → i < length bytes → p ≡ take 52 (drop i bytes) → u ≡ afterLine t p → Passing s bytes u (i + 52)
+  pass-more h e d =
+      let l : 0 < length (drop i bytes) = rw length-drop (omega arith) in
+      record { is = ap₂ (λ v ys. afterLines v 0 ys) (d ∙ ap (afterLine t) e) (sym (drop-drop 52 i bytes)) ∙ sym (first-line t (drop i bytes) l) ∙ c .is }
+
+  pub pass-all : length bytes ≤ i → t ≡ afterLines s 0 bytes
+  unfolding afterLines
+  pass-all h = sym (ap (afterLines t 0) (drop-of-length-le bytes h)) ∙ c .is
+
+pub ruleset passes = (line-of, line-not, pass-none, pass-more, pass-all, needs)

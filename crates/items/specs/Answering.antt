@@ -1,0 +1,62 @@
+-- What is answered to one who asks for an item, and the lent room after it.
+use Prim.Native.Nat.{ℕ}
+use mathlib.Core.List.{List, _++_}
+use mathlib.Core.Bool.{Bool, true, false}
+use lib.ListN.{length, drop}
+use lib.Dec.{leb, eqb}
+use Rattle.machine.specs.Lists.{pick}
+use Rattle.format.specs.Answers.{accepted}
+use Rattle.format.specs.declared.TypeRead.{TypeRead}
+use Rattle.format.specs.declared.TypeRead.the-variants.{Of, NoType}
+use Rattle.reading.specs.Check.{checkOf}
+use Rattle.reading.specs.declared.Answer.{Answer}
+use Rattle.descriptions.specs.Texts.{merged, limitFor}
+use Rattle.writer.specs.Writing.{noRoom}
+use Rattle.items.specs.Search.{noFields, started, afterLines}
+use Rattle.items.specs.declared.ItemFields.{ItemFields}
+use Rattle.items.specs.declared.Found.{Found}
+use Rattle.items.specs.declared.Search.{Search}
+use Rattle.items.specs.declared.ItemRead.{ItemRead}
+
+-- 'no such batch or item'
+abbrev pub noSuchItem : ℕ
+noSuchItem = 13
+
+abbrev pub told : ℕ → ℕ → ℕ → ItemFields → ItemRead
+told number line column fields = record { answer = number; line = line; column = column; fields = fields }
+
+abbrev pub isFound : TypeRead → Bool
+isFound (Of y) = true
+isFound NoType = false
+
+-- 'the fixed ones, then the item's own, cut to the first four, or three with a reference', in places
+unfoldable pub textsFound : Found → List ℕ
+textsFound f = merged (f .fixed) (f .own) (limitFor (f .referred)) .text
+
+-- after all lines of a file with this answer, with so much room: the file's own refusal, 13, 12, or the item
+unfoldable pub answeredBy : Search → Answer → ℕ → ItemRead
+answeredBy s a room =
+    pick (eqb (a .number) accepted)
+    (pick (isFound (s .found .fields .kind))
+    (pick (leb 128 room) (told accepted (a .line) 0 (s .found .fields))
+    (told noRoom (a .line) 0 noFields))
+    (told noSuchItem (a .line) 0 noFields))
+    (told (a .number) (a .line) (a .column) noFields)
+
+-- 'They fill the first 128 bytes of a lent buffer ..; bytes beyond stay'
+unfoldable pub roomBy : Search → Answer → List ℕ → List ℕ
+roomBy s a out =
+    pick (eqb (a .number) accepted)
+    (pick (isFound (s .found .fields .kind))
+    (pick (leb 128 (length out)) (textsFound (s .found) ++ drop 128 out)
+    out)
+    out)
+    out
+
+-- THE ANSWER to one who asks for an item of a file, with so much room
+unfoldable pub itemOf : List ℕ → ℕ → ℕ → ℕ → ItemRead
+itemOf file batch item room = answeredBy (afterLines (started batch item) 0 file) (checkOf file) room
+
+-- THE ROOM after it
+unfoldable pub roomAfter : List ℕ → ℕ → ℕ → List ℕ → List ℕ
+roomAfter file batch item out = roomBy (afterLines (started batch item) 0 file) (checkOf file) out

@@ -1,0 +1,128 @@
+-- The search for item k of batch b, each from 1, through a file's records.
+use Prim.Native.Nat.{ℕ, zero, suc, _-_}
+use mathlib.Core.List.{List, [], _∷_, _++_}
+use mathlib.Core.Bool.{Bool, true, false}
+use lib.ListN.{take}
+use lib.Dec.{eqb}
+use Rattle.machine.specs.Lists.{pick, spaces}
+use Rattle.format.specs.Records.{Fields}
+use Rattle.format.specs.declared.Kind.{Kind}
+use Rattle.format.specs.declared.Kind.the-variants.{FileHeader, BatchHeaderB, BatchHeaderC, FixedDescription, OrderingParty, Transaction, NamePayer, CityPayer, PaymentReference, Description, NameBeneficiary, CityBeneficiary, BatchTrailer, FileTrailer}
+use Rattle.format.specs.declared.Code.{Code}
+use Rattle.format.specs.declared.Code.the-variants as code
+use Rattle.format.specs.declared.TypeRead.the-variants.{Of, NoType}
+use Rattle.record.specs.Kinds.{codeOf}
+use Rattle.record.specs.Read.{transactionFor, valuesOf}
+use Rattle.record.specs.declared.Transaction as items
+use Rattle.descriptions.specs.Texts.{noTexts, withText}
+use Rattle.items.specs.declared.ItemFields.{ItemFields}
+use Rattle.items.specs.declared.Found.{Found}
+use Rattle.items.specs.declared.Search.{Search}
+
+-- ## What is found
+
+-- the first n characters, filled with spaces
+abbrev pub filledTo : ℕ → List ℕ → List ℕ
+filledTo n t = take n (t ++ spaces n)
+
+-- 'With a refusal no fields are handed out: numbers are zero, texts spaces'
+abbrev pub noFields : ItemFields
+noFields = record { kind = NoType; amount = 0; payer = 0; beneficiary = 0; reference = spaces 16; name = spaces 24 }
+
+abbrev pub nothingFound : Found
+nothingFound = record { fixed = noTexts; own = noTexts; referred = false; fields = noFields }
+
+abbrev pub withItem : Found → items.Transaction → Found
+withItem f t =
+    record {
+      fixed = f .fixed;
+      own = f .own;
+      referred = f .referred;
+      fields = record { kind = Of (t .kind); amount = t .amount; payer = t .payer; beneficiary = t .beneficiary; reference = f .fields .reference; name = f .fields .name };
+    }
+
+abbrev pub withFixed : Found → List ℕ → Found
+withFixed f t = record { fixed = withText (f .fixed) t; own = f .own; referred = f .referred; fields = f .fields }
+
+abbrev pub withOwn : Found → List ℕ → Found
+withOwn f t = record { fixed = f .fixed; own = withText (f .own) t; referred = f .referred; fields = f .fields }
+
+abbrev referenceIn : ItemFields → List ℕ → ItemFields
+referenceIn x t = record { kind = x .kind; amount = x .amount; payer = x .payer; beneficiary = x .beneficiary; reference = filledTo 16 t; name = x .name }
+
+abbrev pub withReference : Found → List ℕ → Found
+withReference f t = record { fixed = f .fixed; own = f .own; referred = true; fields = referenceIn (f .fields) t }
+
+abbrev nameIn : ItemFields → List ℕ → ItemFields
+nameIn x t = record { kind = x .kind; amount = x .amount; payer = x .payer; beneficiary = x .beneficiary; reference = x .reference; name = filledTo 24 t }
+
+-- 'the name's first 24 characters'
+abbrev pub withName : Found → List ℕ → Found
+withName f t = record { fixed = f .fixed; own = f .own; referred = f .referred; fields = nameIn (f .fields) t }
+
+-- ## The search
+
+abbrev pub searching : ℕ → ℕ → Bool → Bool → Found → Search
+searching batches items within here f = record { batches = batches; items = items; within = within; here = here; found = f }
+
+abbrev pub started : ℕ → ℕ → Search
+started batch item = searching batch item false false nothingFound
+
+-- a batch header: the wanted batch is the one with which one was left
+abbrev pub headed : Search → Search
+headed s = searching (s .batches - 1) (s .items) (eqb (s .batches) 1) false (s .found)
+
+-- a transaction: only those of the wanted batch count
+unfoldable pub opened : Search → items.Transaction → Search
+opened s t =
+    pick (s .within)
+    (pick (eqb (s .items) 1) (searching (s .batches) 0 true true (withItem (s .found) t))
+    (searching (s .batches) (s .items - 1) true false (s .found)))
+    s
+
+abbrev pub finding : Search → Found → Search
+finding s f = searching (s .batches) (s .items) (s .within) (s .here) f
+
+-- a fixed description of the wanted batch
+unfoldable pub fixed : Search → List ℕ → Search
+fixed s t = pick (s .within) (finding s (withFixed (s .found) t)) s
+
+-- a description, reference or name of the wanted item
+unfoldable pub described : Search → List ℕ → Search
+described s t = pick (s .here) (finding s (withOwn (s .found) t)) s
+
+unfoldable pub referred : Search → List ℕ → Search
+referred s t = pick (s .here) (finding s (withReference (s .found) t)) s
+
+unfoldable pub named : Search → List ℕ → Search
+named s t = pick (s .here) (finding s (withName (s .found) t)) s
+
+abbrev pub afterFor : Search → (k : Kind) → Fields k → Search
+afterFor s FileHeader x = s
+afterFor s BatchHeaderB x = headed s
+afterFor s BatchHeaderC x = headed s
+afterFor s FixedDescription x = fixed s (x .0)
+afterFor s OrderingParty x = s
+afterFor s Transaction x = opened s (transactionFor x)
+afterFor s NamePayer x = named s (x .0)
+afterFor s CityPayer x = s
+afterFor s PaymentReference x = referred s (x .0)
+afterFor s Description x = described s (x .0)
+afterFor s NameBeneficiary x = named s (x .0)
+afterFor s CityBeneficiary x = s
+afterFor s BatchTrailer x = s
+afterFor s FileTrailer x = s
+
+-- a line, by the code and variant that it begins with
+abbrev pub afterCode : Search → List ℕ → Code → Search
+afterCode s line (code.Of k) = afterFor s k (valuesOf k line)
+afterCode s line code.Unknown = s
+
+unfoldable pub afterLine : Search → List ℕ → Search
+afterLine s line = afterCode s line (codeOf (take 5 line))
+
+-- lines of 52 bytes, where k bytes of the line before are still to be passed
+unfoldable pub afterLines : Search → ℕ → List ℕ → Search
+afterLines s k [] = s
+afterLines s (suc k) (x ∷ xs) = afterLines s k xs
+afterLines s zero (x ∷ xs) = afterLines (afterLine s (take 52 (x ∷ xs))) 51 xs

@@ -1,0 +1,87 @@
+// The answer to one who asks for an item.
+ghost use mathlib.Core.Path.{_≡_};
+ghost use lib.ListN.{length};
+ghost use Rattle.items.specs.Search.{noFields};
+ghost use Rattle.items.specs.Answering.{told, isFound, textsFound, answeredBy, roomBy, itemOf, roomAfter};
+use crate::Found;
+use crate::ItemRead;
+use crate::Search;
+use crate::no_fields;
+use crate::text::place;
+use descriptions::limit_for;
+use descriptions::merge;
+use format::TypeRead;
+use reading::Answer;
+
+fn is_found(kind: TypeRead) -> bool
+    ensures { λ r. ⌜ r ≡ isFound kind ⌝ }
+{
+    match kind {
+        TypeRead::Of(_) => true,
+        TypeRead::NoType => false,
+    }
+}
+
+fn refusal(answer: u8, line: u64, column: u8) -> ItemRead
+    ensures { λ r. ⌜ r ≡ told answer line column noFields ⌝ }
+{
+    let fields = no_fields();
+    ItemRead {
+        answer,
+        line,
+        column,
+        fields,
+    }
+}
+
+impl Found {
+    // The fixed descriptions and then the item's own, in four places of 32 characters.
+    fn texts(self) -> [u8; 128]
+        ensures { λ r. ⌜ r ≡ textsFound self ⌝ }
+    {
+        let fixed = self.fixed;
+        let own = self.own;
+        let merged = merge(fixed, own, limit_for(self.referred));
+        merged.text
+    }
+}
+
+impl Search {
+    // After all lines of a file, by the file's own answer: its refusal; 13; 12; or the item, with its descriptions in the first 128 bytes of the room.
+    pub fn answered(self, file: Answer, out: &mut [u8]) -> ItemRead
+        ensures answer { λ r. ⌜ r ≡ answeredBy self file (length (now (out .entry))) ⌝ }
+        ensures bytes { λ _. ⌜ now (out .exit) ≡ roomBy self file (now (out .entry)) ⌝ }
+    {
+        if file.number != 0 {
+            return refusal(file.number, file.line, file.column);
+        }
+        let found = self.found;
+        let fields = found.fields;
+        let kind = fields.kind;
+        if is_found(kind) {
+            if out.len() < 128 {
+                return refusal(writer::NO_ROOM, file.line, 0);
+            }
+            let texts = found.texts();
+            place(&texts, out);
+            return ItemRead {
+                answer: 0,
+                line: file.line,
+                column: 0,
+                fields,
+            };
+        }
+        refusal(crate::NO_SUCH_ITEM, file.line, 0)
+    }
+}
+
+// Item k of batch b of a file.
+pub fn item(file: &[u8], batch: u64, item: u64, out: &mut [u8]) -> ItemRead
+    ensures answer { λ r. ⌜ r ≡ itemOf (now (file .entry)) batch item (length (now (out .entry))) ⌝ }
+    ensures bytes { λ _. ⌜ now (out .exit) ≡ roomAfter (now (file .entry)) batch item (now (out .entry)) ⌝ }
+{
+    let answer = reading::check(file);
+    let search = Search::start(batch, item);
+    let after = search.lines(file);
+    after.answered(answer, out)
+}
