@@ -3,6 +3,7 @@ ghost use mathlib.Core.Path.{_≡_};
 ghost use lib.ListN.{length};
 ghost use Rattle.items.specs.Search.{noFields};
 ghost use Rattle.items.specs.Answering.{told, isFound, textsFound, answeredBy, roomBy, itemOf, roomAfter};
+ghost use Rattle.items.specs.Promises.{Promised};
 use crate::Found;
 use crate::ItemRead;
 use crate::Search;
@@ -75,10 +76,12 @@ impl Search {
     }
 }
 
-// Item k of batch b of a file.
+// Item k of batch b of a file, each from 1; and what the answer means: of a file of the language it is that item of its reading, or 13
+// where it has none, and of other bytes the file's own refusal.
 pub fn item(file: &[u8], batch: u64, item: u64, out: &mut [u8]) -> ItemRead
     ensures answer { λ r. ⌜ r ≡ itemOf (now (file .entry)) batch item (length (now (out .entry))) ⌝ }
     ensures bytes { λ _. ⌜ now (out .exit) ≡ roomAfter (now (file .entry)) batch item (now (out .entry)) ⌝ }
+    ensures meaning { λ r. ⌜ Promised (now (file .entry)) batch item (now (out .entry)) r (now (out .exit)) ⌝ }
 {
     let answer = reading::check(file);
     let search = Search::start(batch, item);

@@ -102,14 +102,14 @@ narrow (optional w ∷ fs) = narrow fs
 narrow (free w ∷ fs) = narrow fs
 narrow (filler w ∷ fs) = narrow fs
 
-narrow-first : (f : Field) (fs : List Field) → narrow (f ∷ fs) ≡ true → narrow (f ∷ []) ≡ true
+pub narrow-first : (f : Field) (fs : List Field) → narrow (f ∷ fs) ≡ true → narrow (f ∷ []) ≡ true
 narrow-first (numeric w) fs h = rw (and-first (leb w 18) (narrow fs) h)
 narrow-first (filled w) fs h = refl
 narrow-first (optional w) fs h = refl
 narrow-first (free w) fs h = refl
 narrow-first (filler w) fs h = refl
 
-narrow-rest : (f : Field) (fs : List Field) → narrow (f ∷ fs) ≡ true → narrow fs ≡ true
+pub narrow-rest : (f : Field) (fs : List Field) → narrow (f ∷ fs) ≡ true → narrow fs ≡ true
 narrow-rest (numeric w) fs h = and-second (leb w 18) (narrow fs) h
 narrow-rest (filled w) fs h = h
 narrow-rest (optional w) fs h = h

@@ -1,5 +1,6 @@
 use borrow.Author.Needs.{needs}
 use Rattle.items.proofs.Answering.{item-via, room-via}
+use Rattle.items.proofs.Promising.{promised-via}
 use Rattle.items.proofs.answer.item.Statement.{statement}
 use Rattle.items.proofs.answer.item.Tie as tie
 
@@ -12,5 +13,5 @@ item-spec =
     (λ c κs. search needs)  -- lines-requires
     (λ c κs. search needs)  -- answered-requires
     (λ c. search needs)  -- same-length
-    (λ c. (search (item-via, needs) depth 20 fits 10000, search (room-via, needs) depth 20 fits 10000))  -- returns
+    (λ c. (search (item-via, needs) depth 20 fits 10000, (search (room-via, needs) depth 20 fits 10000, search (promised-via, needs) depth 20 fits 10000)))  -- returns
     )

@@ -1,0 +1,82 @@
+-- The lines of a file's records lead the search where its records do. Assumes nothing.
+use Prim.Native.Nat.{ℕ, _+_, _-_, _≤_, _<_}
+use mathlib.Core.Path.{_≡_, refl, sym, _∙_, ap, ap₂}
+use mathlib.Core.List.{List, [], _∷_, _++_, append-assoc}
+use mathlib.Core.Bool.{Bool, true}
+use native.Mathlib.Omega.{arith}
+use borrow.Author.Tests.{leb-true}
+use lib.ListN.{length, take, drop, length-append}
+use lib.Seq.{take-at, drop-at}
+use lib.Dec.{leb}
+use Rattle.format.specs.Fields.{Field, numeric, filled, optional, free, filler, width, Value, Values, writeField, writeFields, Fit, Fits}
+use Rattle.format.specs.Records.{layout, code, Fields}
+use Rattle.format.specs.Language.{Rec, Ending, crlf, endBytes, lineOf, linesOf}
+use Rattle.format.specs.declared.Kind.{Kind}
+use Rattle.format.specs.declared.Code.the-variants.{Of}
+use Rattle.format.proofs.Checks.{field-read}
+use Rattle.format.proofs.Link.{line-widths, line-length}
+use Rattle.format.proofs.Reader.{State, Path, end, go}
+use Rattle.machine.specs.Lists.{all, isDigit}
+use Rattle.machine.proofs.Digits.{length-decimal, decimal-digits, value-decimal}
+use Rattle.machine.specs.Digits.{decimal}
+use Rattle.field.specs.Rows.{cut}
+use Rattle.field.specs.declared.numbers.Digits.{Digits}
+use Rattle.field.proofs.Numerics.{and-first, digits-are}
+use Rattle.record.specs.Kinds.{codeOf}
+use Rattle.record.specs.Read.{valueIn, valuesAt, valuesOf}
+use Rattle.record.proofs.Reading.{narrow, narrow-first, narrow-rest, narrow-layout}
+use Rattle.writer.proofs.Accepting.{code-found}
+use Rattle.writer.proofs.Back.{yes}
+use Rattle.items.specs.Search.{afterFor, afterCode, afterLine, afterLines}
+use Rattle.items.specs.declared.Search.{Search}
+use Rattle.items.proofs.Searching.{first-line}
+
+-- ## The fields of a written line
+
+value-back : (f : Field) (v : Value f) → narrow (f ∷ []) ≡ true → Fit f v → valueIn f (writeField f v) ≡ v
+value-back (numeric w) v n h =
+    let l : length (decimal w v) ≤ 18 = omega (arith, length-decimal w v, leb-true w 18 (and-first (leb w 18) true n)) in
+    sym (ap (λ (d : Digits). d .value) (digits-are (decimal w v) l (yes (all isDigit (decimal w v)) (decimal-digits w v)) refl)) ∙ value-decimal w v h
+value-back (filled w) v n h = refl
+value-back (optional w) v n h = refl
+value-back (free w) v n h = refl
+value-back (filler w) v n h = refl
+
+values-back : (c : ℕ) (fs : List Field) (x : Values fs) (before z : List ℕ) → 1 ≤ c → length before ≡ c - 1 → narrow fs ≡ true → Fits fs x → valuesAt c fs (before ++ (writeFields fs x ++ z)) ≡ x
+values-back c [] x before z p l n h = refl
+values-back c (f ∷ fs) x before z p l n h =
+    let v : List ℕ = writeField f (x .0) in
+    let vs : List ℕ = writeFields fs (x .1) in
+    let line : List ℕ = before ++ ((v ++ vs) ++ z) in
+    let w : length v ≡ width f = field-read f (x .0) (h .0) .2 in
+    let a : cut c (width f) line ≡ v = ap (take (width f)) (drop-at before ((v ++ vs) ++ z) (c - 1) l ∙ append-assoc v vs z) ∙ take-at v (vs ++ z) (width f) w in
+    let b : line ≡ (before ++ v) ++ (vs ++ z) = ap (λ y. before ++ y) (append-assoc v vs z) ∙ sym (append-assoc before v (vs ++ z)) in
+    let first : valueIn f (cut c (width f) line) ≡ x .0 = ap (valueIn f) a ∙ value-back f (x .0) (narrow-first f fs n) (h .0) in
+    let rest : valuesAt (c + width f) fs line ≡ x .1
+    = ap (valuesAt (c + width f) fs) b ∙ values-back (c + width f) fs (x .1) (before ++ v) z (omega arith) (rw length-append (omega arith)) (narrow-rest f fs n) (h .1) in
+    λ i. (first i, rest i)
+
+line-back : (s : Search) (k : Kind) (x : Fields k) (z : List ℕ) → Fits (layout k) x → afterLine s (lineOf z (k, x)) ≡ afterFor s k x
+unfolding afterLine
+line-back s k x z h =
+    let l = line-widths k .0 in
+    ap (afterCode s (lineOf z (k, x))) (ap codeOf (take-at (code k) (writeFields (layout k) x ++ z) 5 l) ∙ code-found k)
+    ∙ ap (afterFor s k) (values-back 6 (layout k) x (code k) z (omega arith) (omega (arith, l)) (narrow-layout k) h)
+
+-- ## Record after record
+
+unfoldable pub afterRecs : Search → List Rec → Search
+afterRecs s [] = s
+afterRecs s (r ∷ rs) = afterRecs (afterFor s (r .0) (r .1)) rs
+
+pub lines-back : {p : State} {rs : List Rec} (z : Ending) → Path p rs → (s : Search) → afterLines s 0 (linesOf (endBytes z) rs) ≡ afterRecs s rs
+unfolding afterLines afterRecs linesOf
+lines-back z end s = refl
+lines-back crlf (go {s = c} {rs = rs} k x pl o p) s =
+    let line : List ℕ = lineOf (13 ∷ 10 ∷ []) (k, x) in
+    let l : length line ≡ 52 = line-length pl c x o (13 ∷ 10 ∷ []) in
+    let n : 0 < length (line ++ linesOf (13 ∷ 10 ∷ []) rs) = rw length-append (omega arith) in
+    first-line s (line ++ linesOf (13 ∷ 10 ∷ []) rs) n
+    ∙ ap₂ (λ y ys. afterLines (afterLine s y) 0 ys) (take-at line (linesOf (13 ∷ 10 ∷ []) rs) 52 l) (drop-at line (linesOf (13 ∷ 10 ∷ []) rs) 52 l)
+    ∙ ap (λ t. afterLines t 0 (linesOf (13 ∷ 10 ∷ []) rs)) (line-back s k x (13 ∷ 10 ∷ []) (o .fits))
+    ∙ lines-back crlf p (afterFor s k x)
