@@ -1,5 +1,5 @@
 -- What asking for an item promises. Assumes nothing.
-use Prim.Native.Nat.{ℕ, zero, suc, _+_, _≤_, _<_}
+use Prim.Native.Nat.{ℕ, zero, suc, _+_, _≤_}
 use mathlib.Core.Path.{_≡_, refl, sym, _∙_, ap, ap₂, subst}
 use mathlib.Core.List.{List, [], _∷_, _++_, append-assoc, append-nil}
 use mathlib.Core.Bool.{Bool, true, false}
@@ -11,7 +11,7 @@ use lib.Seq.{take-at, take-append-le}
 use lib.Dec.{T, leb}
 use Rattle.machine.specs.Lists.{pick, spaces}
 use Rattle.format.specs.Rules.{typeOf, isTypeIn, needsName}
-use Rattle.format.specs.Language.{Name, Item, Batch, File, Reads, Ending, endBytes, linesOf, fileRecs, ReferenceOk, DescriptionsOk, NameOk, ones, ItemOk, ItemsOk, Before, noneBefore, afterThat, BatchOk, BatchesOk}
+use Rattle.format.specs.Language.{Name, Item, Batch, File, Reads, fileRecs, ReferenceOk, DescriptionsOk, NameOk, ItemOk, ItemsOk, Before, noneBefore, afterThat, BatchOk, BatchesOk}
 use Rattle.format.specs.Cutting.{AreLines}
 use Rattle.format.specs.Statements.{InLanguage}
 use Rattle.format.specs.declared.Group.{Group}
@@ -23,11 +23,11 @@ use Rattle.record.specs.declared.Transaction as items
 use Rattle.reading.specs.Check.{checkOf}
 use Rattle.reading.specs.declared.Answer.{Answer}
 use Rattle.theorem.proofs.Meaning.{means}
-use Rattle.descriptions.specs.Texts.{limitFor, noTexts, inPlaces, merged, textFrom, withText}
+use Rattle.descriptions.specs.Texts.{limitFor, noTexts, inPlaces, merged, textFrom}
 use Rattle.descriptions.specs.declared.Descriptions.{Descriptions}
 use Rattle.descriptions.proofs.Lists.{Full, full-more, with-places, merged-places}
 use Rattle.items.specs.Search.{filledTo, noFields, nothingFound, withItem, started, afterLines}
-use Rattle.items.specs.Answering.{told, isFound, textsFound, answeredBy, roomBy, itemOf, roomAfter}
+use Rattle.items.specs.Answering.{told, isFound, textsFound, answeredBy, roomBy}
 use Rattle.items.specs.Promises.{nth, ItemAt, itemWith, itemOfBatch, itemAt, referenceFor, nameFor, fieldsFor, isSome, textsFor, handedOut, roomWith, Promised}
 use Rattle.items.specs.declared.ItemFields.{ItemFields}
 use Rattle.items.specs.declared.Found.{Found}

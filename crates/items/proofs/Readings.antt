@@ -1,14 +1,14 @@
 -- What the search finds in a file's records: that file's item. Assumes nothing.
-use Prim.Native.Nat.{ℕ, zero, suc, _+_, _-_, _≤_, _<_}
+use Prim.Native.Nat.{ℕ, zero, suc, _-_}
 use mathlib.Core.Path.{_≡_, refl, sym, _∙_, ap, ap₂}
-use mathlib.Core.List.{List, [], _∷_, _++_}
+use mathlib.Core.List.{List, [], _∷_}
 use mathlib.Core.Bool.{Bool, true, false}
 use mathlib.Core.Option.{Option, none, some}
 use native.Mathlib.Omega.{arith}
 use borrow.Author.Tests.{ne-eqb}
 use lib.ListN.{length}
 use lib.Dec.{eqb}
-use Rattle.machine.specs.Lists.{pick, spaces}
+use Rattle.machine.specs.Lists.{pick}
 use Rattle.format.specs.Language.{Name, Item, Batch, Rec, totalOf, accountsOf, tenDigits, batchHeaderRec, fixedRecs, orderingPartyRec, referenceRecs, descriptionRecs, cityRecs, nameRecs, itemRecs, itemsRecs, batchTrailerRec, batchesRecs, fileTrailerRecs}
 use Rattle.format.specs.declared.Group.{Group}
 use Rattle.format.specs.declared.Group.the-variants.{Payments, Debits}

@@ -2,17 +2,16 @@
 use Prim.Native.Nat.{ℕ, _+_, _-_, _≤_, _<_}
 use mathlib.Core.Path.{_≡_, refl, sym, _∙_, ap, ap₂}
 use mathlib.Core.List.{List, [], _∷_, _++_, append-assoc}
-use mathlib.Core.Bool.{Bool, true}
+use mathlib.Core.Bool.{true}
 use native.Mathlib.Omega.{arith}
 use borrow.Author.Tests.{leb-true}
-use lib.ListN.{length, take, drop, length-append}
+use lib.ListN.{length, take, length-append}
 use lib.Seq.{take-at, drop-at}
 use lib.Dec.{leb}
 use Rattle.format.specs.Fields.{Field, numeric, filled, optional, free, filler, width, Value, Values, writeField, writeFields, Fit, Fits}
 use Rattle.format.specs.Records.{layout, code, Fields}
 use Rattle.format.specs.Language.{Rec, Ending, crlf, endBytes, lineOf, linesOf}
 use Rattle.format.specs.declared.Kind.{Kind}
-use Rattle.format.specs.declared.Code.the-variants.{Of}
 use Rattle.format.proofs.Checks.{field-read}
 use Rattle.format.proofs.Link.{line-widths, line-length}
 use Rattle.format.proofs.Reader.{State, Path, end, go}
@@ -23,7 +22,7 @@ use Rattle.field.specs.Rows.{cut}
 use Rattle.field.specs.declared.numbers.Digits.{Digits}
 use Rattle.field.proofs.Numerics.{and-first, digits-are}
 use Rattle.record.specs.Kinds.{codeOf}
-use Rattle.record.specs.Read.{valueIn, valuesAt, valuesOf}
+use Rattle.record.specs.Read.{valueIn, valuesAt}
 use Rattle.record.proofs.Reading.{narrow, narrow-first, narrow-rest, narrow-layout}
 use Rattle.writer.proofs.Accepting.{code-found}
 use Rattle.writer.proofs.Back.{yes}

@@ -8,17 +8,16 @@ use borrow.Author.Needs.{needs}
 use borrow.Author.Tests.{eq-eqb, ne-eqb}
 use lib.ListN.{length, take, drop, length-drop, drop-of-length-le}
 use lib.Seq.{drop-drop}
-use lib.Dec.{eqb}
 use Rattle.machine.specs.Lists.{pick}
 use Rattle.format.specs.declared.Kind.{Kind}
-use Rattle.format.specs.declared.Kind.the-variants.{FixedDescription, Transaction, NamePayer, PaymentReference, Description, NameBeneficiary}
+use Rattle.format.specs.declared.Kind.the-variants.{Transaction}
 use Rattle.format.specs.declared.Code.{Code}
 use Rattle.format.specs.declared.Code.the-variants.{Of, Unknown}
 use Rattle.record.specs.Kinds.{codeOf}
-use Rattle.record.specs.Read.{transactionFor, valuesOf}
+use Rattle.record.specs.Read.{valuesOf}
 use Rattle.record.specs.declared.Transaction as items
 use Rattle.descriptions.specs.declared.Descriptions.{Descriptions}
-use Rattle.items.specs.Search.{noFields, nothingFound, withItem, withFixed, withOwn, withReference, withName, searching, finding, headed, opened, fixed, described, referred, named, afterFor, afterCode, afterLine, afterLines}
+use Rattle.items.specs.Search.{withItem, withFixed, withOwn, withReference, withName, searching, finding, opened, fixed, described, referred, named, afterFor, afterCode, afterLine, afterLines}
 use Rattle.items.specs.declared.ItemFields.{ItemFields}
 use Rattle.items.specs.declared.Found.{Found}
 use Rattle.items.specs.declared.Search.{Search}
@@ -49,9 +48,9 @@ pub search-made : {b c i j : ℕ} {v w h : Bool} {f g : Found} → b ≡ c → i
 search-made d e k l = rw (d, e, k, l)
 
 module _ (s : Search) (t : items.Transaction) where
-  pub opened-here : {g : Found} → s .within ≡ true → s .items ≡ 1 → g ≡ withItem (s .found) t → searching (s .batches) 0 true true g ≡ opened s t
+  pub opened-here : {g : Found} {u : items.Transaction} → s .within ≡ true → s .items ≡ 1 → u ≡ t → g ≡ withItem (s .found) u → searching (s .batches) 0 true true g ≡ opened s t
   unfolding opened pick
-  opened-here w n e = rw (w, eq-eqb (s .items) 1 n, e)
+  opened-here w n h e = rw (w, eq-eqb (s .items) 1 n, e, h)
 
   pub opened-on : {n : ℕ} → s .within ≡ true → (s .items ≡ 1 → ⊥) → n ≡ s .items - 1 → searching (s .batches) n true false (s .found) ≡ opened s t
   unfolding opened pick
@@ -63,22 +62,22 @@ module _ (s : Search) (t : items.Transaction) where
 
 pub ruleset opens = (opened-here, opened-on, opened-not, needs)
 
-module _ {x : Search} {g : Found} (s : Search) (t : List ℕ) (e : x ≡ finding s g) where
-  pub fixed-in : s .within ≡ true → g ≡ withFixed (s .found) t → x ≡ fixed s t
+module _ {x : Search} {g : Found} {p : List ℕ} (s : Search) (t : List ℕ) (e : x ≡ finding s g) (d : p ≡ t) where
+  pub fixed-in : s .within ≡ true → g ≡ withFixed (s .found) p → x ≡ fixed s t
   unfolding fixed pick
-  fixed-in w h = e ∙ rw (w, h)
+  fixed-in w h = e ∙ rw (w, h, d)
 
-  pub described-in : s .here ≡ true → g ≡ withOwn (s .found) t → x ≡ described s t
+  pub described-in : s .here ≡ true → g ≡ withOwn (s .found) p → x ≡ described s t
   unfolding described pick
-  described-in w h = e ∙ rw (w, h)
+  described-in w h = e ∙ rw (w, h, d)
 
-  pub referred-in : s .here ≡ true → g ≡ withReference (s .found) t → x ≡ referred s t
+  pub referred-in : s .here ≡ true → g ≡ withReference (s .found) p → x ≡ referred s t
   unfolding referred pick
-  referred-in w h = e ∙ rw (w, h)
+  referred-in w h = e ∙ rw (w, h, d)
 
-  pub named-in : s .here ≡ true → g ≡ withName (s .found) t → x ≡ named s t
+  pub named-in : s .here ≡ true → g ≡ withName (s .found) p → x ≡ named s t
   unfolding named pick
-  named-in w h = e ∙ rw (w, h)
+  named-in w h = e ∙ rw (w, h, d)
 
 module _ (s : Search) (t : List ℕ) where
   pub fixed-out : s .within ≡ false → s ≡ fixed s t
@@ -103,27 +102,6 @@ pub ruleset texts = (fixed-in, described-in, referred-in, named-in, fixed-out, d
 
 pub after-via : {x : Search} {k m : Kind} (s : Search) (line : List ℕ) → k ≡ m → x ≡ afterFor s m (valuesOf m line) → x ≡ afterFor s k (valuesOf k line)
 after-via s line e h = h ∙ ap (λ i. afterFor s i (valuesOf i line)) (sym e)
-
-module _ {x : Search} {k : Kind} {p : List ℕ} (s : Search) (line : List ℕ) where
-  pub fixed-via : k ≡ FixedDescription → p ≡ take 32 (drop 5 line) → x ≡ fixed s p → x ≡ afterFor s k (valuesOf k line)
-  fixed-via e f h = after-via s line e (h ∙ ap (fixed s) f)
-
-  pub described-via : k ≡ Description → p ≡ take 32 (drop 5 line) → x ≡ described s p → x ≡ afterFor s k (valuesOf k line)
-  described-via e f h = after-via s line e (h ∙ ap (described s) f)
-
-  pub referred-via : k ≡ PaymentReference → p ≡ take 16 (drop 5 line) → x ≡ referred s p → x ≡ afterFor s k (valuesOf k line)
-  referred-via e f h = after-via s line e (h ∙ ap (referred s) f)
-
-  pub payer-via : k ≡ NamePayer → p ≡ take 35 (drop 5 line) → x ≡ named s p → x ≡ afterFor s k (valuesOf k line)
-  payer-via e f h = after-via s line e (h ∙ ap (named s) f)
-
-  pub beneficiary-via : k ≡ NameBeneficiary → p ≡ take 35 (drop 5 line) → x ≡ named s p → x ≡ afterFor s k (valuesOf k line)
-  beneficiary-via e f h = after-via s line e (h ∙ ap (named s) f)
-
-pub opened-via : {x : Search} {k : Kind} {t : items.Transaction} (s : Search) (line : List ℕ) → k ≡ Transaction → t ≡ transactionFor (valuesOf Transaction line) → x ≡ opened s t → x ≡ afterFor s k (valuesOf k line)
-opened-via s line e f h = after-via s line e (h ∙ ap (opened s) f)
-
-pub ruleset kinds = (after-via, fixed-via, described-via, referred-via, payer-via, beneficiary-via, opened-via, needs)
 
 -- ## Lines
 

@@ -5,6 +5,7 @@ use descriptions::Descriptions;
 use format::TypeRead;
 
 mod answer;
+mod findings;
 mod steps;
 mod text;
 

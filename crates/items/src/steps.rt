@@ -1,20 +1,15 @@
 // The search for an item, line by line.
 ghost use mathlib.Core.Path.{_≡_};
 ghost use Prim.Native.Nat.{_-_};
-ghost use Rattle.record.specs.Read.{valuesOf};
-ghost use Rattle.items.specs.Search.{nothingFound, withItem, withFixed, withOwn, withReference, withName, started, finding, headed, opened, fixed, described, referred, named, afterFor, afterLine, afterLines};
+ghost use lib.ListN.{take, drop};
+ghost use Rattle.format.specs.declared.Kind.the-variants as kinds;
+ghost use Rattle.record.specs.Read.{transactionFor, valuesOf};
+ghost use Rattle.items.specs.Search.{started, finding, headed, opened, fixed, described, referred, named, afterFor, afterLine, afterLines};
 use crate::Found;
-use crate::ItemFields;
 use crate::Search;
-use crate::no_fields;
-use crate::text::first_16;
-use crate::text::first_24;
-use descriptions::Descriptions;
 use field::bytes::part;
 use format::Code;
 use format::Kind;
-use format::TypeRead;
-use record::Transaction;
 use record::kinds::code_of;
 use record::read::transaction_at;
 
@@ -25,109 +20,6 @@ fn less_one(n: u64) -> u64
         return 0;
     }
     n - 1
-}
-
-impl Found {
-    fn nothing() -> Found
-        ensures { λ r. ⌜ r ≡ nothingFound ⌝ }
-    {
-        let fixed = Descriptions::none();
-        let own = Descriptions::none();
-        let fields = no_fields();
-        Found {
-            fixed,
-            own,
-            referred: false,
-            fields,
-        }
-    }
-
-    fn with_item(self, t: Transaction) -> Found
-        ensures { λ r. ⌜ r ≡ withItem self t ⌝ }
-    {
-        let fixed = self.fixed;
-        let own = self.own;
-        let before = self.fields;
-        let reference = before.reference;
-        let name = before.name;
-        let kind = t.kind;
-        let fields = ItemFields {
-            kind: TypeRead::Of(kind),
-            amount: t.amount,
-            payer: t.payer,
-            beneficiary: t.beneficiary,
-            reference,
-            name,
-        };
-        Found {
-            fixed,
-            own,
-            referred: self.referred,
-            fields,
-        }
-    }
-
-    fn with_fixed(self, text: &[u8]) -> Found
-        ensures { λ r. ⌜ r ≡ withFixed self (now (text .entry)) ⌝ }
-    {
-        let before = self.fixed;
-        let fixed = before.with(text);
-        let own = self.own;
-        let fields = self.fields;
-        Found {
-            fixed,
-            own,
-            referred: self.referred,
-            fields,
-        }
-    }
-
-    fn with_own(self, text: &[u8]) -> Found
-        ensures { λ r. ⌜ r ≡ withOwn self (now (text .entry)) ⌝ }
-    {
-        let fixed = self.fixed;
-        let before = self.own;
-        let own = before.with(text);
-        let fields = self.fields;
-        Found {
-            fixed,
-            own,
-            referred: self.referred,
-            fields,
-        }
-    }
-
-    fn with_reference(self, text: &[u8]) -> Found
-        ensures { λ r. ⌜ r ≡ withReference self (now (text .entry)) ⌝ }
-    {
-        let fixed = self.fixed;
-        let own = self.own;
-        let mut fields = self.fields;
-        let reference = first_16(text);
-        fields.reference = reference;
-        Found {
-            fixed,
-            own,
-            referred: true,
-            fields,
-        }
-    }
-
-    fn with_name(self, text: &[u8]) -> Found
-        ensures { λ r. ⌜ r ≡ withName self (now (text .entry)) ⌝ }
-    {
-        let fixed = self.fixed;
-        let own = self.own;
-        let mut fields = self.fields;
-        let name = first_24(text);
-        fields.name = name;
-        Found {
-            fixed,
-            own,
-            referred: self.referred,
-            fields,
-        }
-    }
 }
 
 impl Search {
@@ -160,15 +52,15 @@ impl Search {
         }
     }
 
-    // At a transaction.
-    fn opened(self, t: Transaction) -> Search
-        ensures { λ r. ⌜ r ≡ opened self t ⌝ }
+    // At a transaction, whose fields are read of the wanted item only.
+    fn opened(self, line: &[u8]) -> Search
+        ensures { λ r. ⌜ r ≡ opened self (transactionFor (valuesOf kinds.Transaction (now (line .entry)))) ⌝ }
     {
         let found = self.found;
         let left = self.items;
         if self.within {
             if left == 1 {
-                let more = found.with_item(t);
+                let more = found.with_item(transaction_at(line));
                 return Search {
                     batches: self.batches,
                     items: 0,
@@ -200,42 +92,42 @@ impl Search {
         }
     }
 
-    fn fixed(self, text: &[u8]) -> Search
-        ensures { λ r. ⌜ r ≡ fixed self (now (text .entry)) ⌝ }
+    fn fixed(self, line: &[u8]) -> Search
+        ensures { λ r. ⌜ r ≡ fixed self (take 32 (drop 5 (now (line .entry)))) ⌝ }
     {
         let found = self.found;
         if self.within {
-            return self.finding(found.with_fixed(text));
+            return self.finding(found.with_fixed(part(line, 5, 32)));
         }
         self
     }
 
-    fn described(self, text: &[u8]) -> Search
-        ensures { λ r. ⌜ r ≡ described self (now (text .entry)) ⌝ }
+    fn described(self, line: &[u8]) -> Search
+        ensures { λ r. ⌜ r ≡ described self (take 32 (drop 5 (now (line .entry)))) ⌝ }
     {
         let found = self.found;
         if self.here {
-            return self.finding(found.with_own(text));
+            return self.finding(found.with_own(part(line, 5, 32)));
         }
         self
     }
 
-    fn referred(self, text: &[u8]) -> Search
-        ensures { λ r. ⌜ r ≡ referred self (now (text .entry)) ⌝ }
+    fn referred(self, line: &[u8]) -> Search
+        ensures { λ r. ⌜ r ≡ referred self (take 16 (drop 5 (now (line .entry)))) ⌝ }
     {
         let found = self.found;
         if self.here {
-            return self.finding(found.with_reference(text));
+            return self.finding(found.with_reference(part(line, 5, 16)));
         }
         self
     }
 
-    fn named(self, text: &[u8]) -> Search
-        ensures { λ r. ⌜ r ≡ named self (now (text .entry)) ⌝ }
+    fn named(self, line: &[u8]) -> Search
+        ensures { λ r. ⌜ r ≡ named self (take 35 (drop 5 (now (line .entry)))) ⌝ }
     {
         let found = self.found;
         if self.here {
-            return self.finding(found.with_name(text));
+            return self.finding(found.with_name(part(line, 5, 35)));
         }
         self
     }
@@ -248,14 +140,14 @@ impl Search {
             Kind::FileHeader => self,
             Kind::BatchHeaderB => self.headed(),
             Kind::BatchHeaderC => self.headed(),
-            Kind::FixedDescription => self.fixed(part(line, 5, 32)),
+            Kind::FixedDescription => self.fixed(line),
             Kind::OrderingParty => self,
-            Kind::Transaction => self.opened(transaction_at(line)),
-            Kind::NamePayer => self.named(part(line, 5, 35)),
+            Kind::Transaction => self.opened(line),
+            Kind::NamePayer => self.named(line),
             Kind::CityPayer => self,
-            Kind::PaymentReference => self.referred(part(line, 5, 16)),
-            Kind::Description => self.described(part(line, 5, 32)),
-            Kind::NameBeneficiary => self.named(part(line, 5, 35)),
+            Kind::PaymentReference => self.referred(line),
+            Kind::Description => self.described(line),
+            Kind::NameBeneficiary => self.named(line),
             Kind::CityBeneficiary => self,
             Kind::BatchTrailer => self,
             Kind::FileTrailer => self,

@@ -7,6 +7,7 @@ pub opened-spec : {M : Type 1} → statement M
 opened-spec =
     tie.close
     (tie.spec
+    (λ c κs. search needs)  -- transaction-at-requires
     (λ c κs. search needs)  -- with-item-requires
     (λ c. search opens depth 20 fits 10000)  -- returns
     (λ c κs. search needs)  -- less-one-requires
