@@ -12,21 +12,20 @@ use Rattle.format.specs.Fields.{Field, numeric, filled, optional, free, filler,
 use Rattle.format.specs.Records.{layout, code, Fields}
 use Rattle.format.specs.Language.{Rec, Ending, crlf, endBytes, lineOf, linesOf}
 use Rattle.format.specs.declared.Kind.{Kind}
+use Rattle.format.specs.declared.Kind.the-variants.{FileHeader, BatchHeaderB, BatchHeaderC, FixedDescription, OrderingParty, Transaction, NamePayer, CityPayer, PaymentReference, Description, NameBeneficiary, CityBeneficiary, BatchTrailer, FileTrailer}
 use Rattle.format.proofs.Checks.{field-read}
 use Rattle.format.proofs.Link.{line-widths, line-length}
 use Rattle.format.proofs.Reader.{State, Path, end, go}
-use Rattle.machine.specs.Lists.{all, isDigit}
+use Rattle.machine.specs.Lists.{pick, all, same, isDigit}
+use Rattle.machine.proofs.Base.{and-first, yes}
 use Rattle.machine.proofs.Digits.{length-decimal, decimal-digits, value-decimal}
 use Rattle.machine.specs.Digits.{decimal}
 use Rattle.field.specs.Rows.{cut}
 use Rattle.field.specs.declared.numbers.Digits.{Digits}
-use Rattle.field.proofs.Numerics.{and-first, digits-are}
-use Rattle.record.specs.Kinds.{codeOf}
-use Rattle.record.specs.Read.{valueIn, valuesAt}
+use Rattle.field.proofs.Numerics.{digits-are}
+use Rattle.record.specs.Read.{transactionFor, valueIn, valuesAt, valuesOf}
 use Rattle.record.proofs.Reading.{narrow, narrow-first, narrow-rest, narrow-layout}
-use Rattle.writer.proofs.Accepting.{code-found}
-use Rattle.writer.proofs.Back.{yes}
-use Rattle.items.specs.Search.{afterFor, afterCode, afterLine, afterLines}
+use Rattle.items.specs.Search.{headed, opened, fixed, described, referred, named, isName, isHeader, afterLine, afterLines}
 use Rattle.items.specs.declared.Search.{Search}
 use Rattle.items.proofs.Searching.{first-line}
 
@@ -55,12 +54,45 @@ values-back c (f ∷ fs) x before z p l n h =
     = ap (valuesAt (c + width f) fs) b ∙ values-back (c + width f) fs (x .1) (before ++ v) z (omega arith) (rw length-append (omega arith)) (narrow-rest f fs n) (h .1) in
     λ i. (first i, rest i)
 
+-- ## A line by its kind
+
+abbrev pub afterFor : Search → (k : Kind) → Fields k → Search
+afterFor s FileHeader x = s
+afterFor s BatchHeaderB x = headed s
+afterFor s BatchHeaderC x = headed s
+afterFor s FixedDescription x = fixed s (x .0)
+afterFor s OrderingParty x = s
+afterFor s Transaction x = opened s (transactionFor x)
+afterFor s NamePayer x = named s (x .0)
+afterFor s CityPayer x = s
+afterFor s PaymentReference x = referred s (x .0)
+afterFor s Description x = described s (x .0)
+afterFor s NameBeneficiary x = named s (x .0)
+afterFor s CityBeneficiary x = s
+afterFor s BatchTrailer x = s
+afterFor s FileTrailer x = s
+
+by-kind : (s : Search) (line : List ℕ) (k : Kind) → take 5 line ≡ code k → afterLine s line ≡ afterFor s k (valuesOf k line)
+unfolding afterLine isName isHeader same pick
+by-kind s line FileHeader e = rw e
+by-kind s line BatchHeaderB e = rw e
+by-kind s line BatchHeaderC e = rw e
+by-kind s line FixedDescription e = rw e
+by-kind s line OrderingParty e = rw e
+by-kind s line Transaction e = rw e
+by-kind s line NamePayer e = rw e
+by-kind s line CityPayer e = rw e
+by-kind s line PaymentReference e = rw e
+by-kind s line Description e = rw e
+by-kind s line NameBeneficiary e = rw e
+by-kind s line CityBeneficiary e = rw e
+by-kind s line BatchTrailer e = rw e
+by-kind s line FileTrailer e = rw e
+
 line-back : (s : Search) (k : Kind) (x : Fields k) (z : List ℕ) → Fits (layout k) x → afterLine s (lineOf z (k, x)) ≡ afterFor s k x
-unfolding afterLine
 line-back s k x z h =
     let l = line-widths k .0 in
-    ap (afterCode s (lineOf z (k, x))) (ap codeOf (take-at (code k) (writeFields (layout k) x ++ z) 5 l) ∙ code-found k)
-    ∙ ap (afterFor s k) (values-back 6 (layout k) x (code k) z (omega arith) (omega (arith, l)) (narrow-layout k) h)
+    by-kind s (lineOf z (k, x)) k (take-at (code k) (writeFields (layout k) x ++ z) 5 l) ∙ ap (afterFor s k) (values-back 6 (layout k) x (code k) z (omega arith) (omega (arith, l)) (narrow-layout k) h)
 
 -- ## Record after record
 

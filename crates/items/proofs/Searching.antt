@@ -2,22 +2,17 @@
 use Prim.Native.Nat.{ℕ, zero, suc, _+_, _-_, _≤_, _<_}
 use mathlib.Core.Path.{_≡_, refl, sym, _∙_, ap, ap₂}
 use mathlib.Core.List.{List, [], _∷_}
-use mathlib.Core.Bool.{Bool, true, false}
+use mathlib.Core.Bool.{Bool, true, false, _||_}
 use native.Mathlib.Omega.{arith}
 use borrow.Author.Needs.{needs}
 use borrow.Author.Tests.{eq-eqb, ne-eqb}
 use lib.ListN.{length, take, drop, length-drop, drop-of-length-le}
 use lib.Seq.{drop-drop}
 use Rattle.machine.specs.Lists.{pick}
-use Rattle.format.specs.declared.Kind.{Kind}
-use Rattle.format.specs.declared.Kind.the-variants.{Transaction}
-use Rattle.format.specs.declared.Code.{Code}
-use Rattle.format.specs.declared.Code.the-variants.{Of, Unknown}
-use Rattle.record.specs.Kinds.{codeOf}
-use Rattle.record.specs.Read.{valuesOf}
+use Rattle.format.specs.declared.Kind.the-variants.{BatchHeaderB, BatchHeaderC, NamePayer, NameBeneficiary}
 use Rattle.record.specs.declared.Transaction as items
 use Rattle.descriptions.specs.declared.Descriptions.{Descriptions}
-use Rattle.items.specs.Search.{withItem, withFixed, withOwn, withReference, withName, searching, finding, opened, fixed, described, referred, named, afterFor, afterCode, afterLine, afterLines}
+use Rattle.items.specs.Search.{withItem, withFixed, withOwn, withReference, withName, searching, finding, opened, fixed, described, referred, named, begins, isName, isHeader, afterLine, afterLines}
 use Rattle.items.specs.declared.ItemFields.{ItemFields}
 use Rattle.items.specs.declared.Found.{Found}
 use Rattle.items.specs.declared.Search.{Search}
@@ -98,21 +93,18 @@ module _ (s : Search) (t : List ℕ) where
 
 pub ruleset texts = (fixed-in, described-in, referred-in, named-in, fixed-out, described-out, referred-out, named-out, needs)
 
--- ## By the kind
-
-pub after-via : {x : Search} {k m : Kind} (s : Search) (line : List ℕ) → k ≡ m → x ≡ afterFor s m (valuesOf m line) → x ≡ afterFor s k (valuesOf k line)
-after-via s line e h = h ∙ ap (λ i. afterFor s i (valuesOf i line)) (sym e)
-
 -- ## Lines
 
-module _ {c : Code} (s : Search) (line : List ℕ) (e : c ≡ codeOf (take 5 line)) where
-  pub line-of : {x : Search} (k : Kind) → c ≡ Of k → x ≡ afterFor s k (valuesOf k line) → x ≡ afterLine s line
-  unfolding afterLine
-  line-of k h p = p ∙ ap (afterCode s line) (sym h ∙ e)
+module _ {a b : Bool} (line : List ℕ) where
+  pub either-name : a ≡ begins NameBeneficiary line → b ≡ begins NamePayer line → (a || b) ≡ isName line
+  unfolding isName
+  either-name e f = rw (e, f)
 
-  pub line-not : c ≡ Unknown → s ≡ afterLine s line
-  unfolding afterLine
-  line-not h = ap (afterCode s line) (sym h ∙ e)
+  pub either-header : a ≡ begins BatchHeaderB line → b ≡ begins BatchHeaderC line → (a || b) ≡ isHeader line
+  unfolding isHeader
+  either-header e f = rw (e, f)
+
+pub ruleset eithers = (either-name, either-header, needs)
 
 pub skip : (s : Search) (k : ℕ) (xs : List ℕ) → afterLines s k xs ≡ afterLines s 0 (drop k xs)
 unfolding afterLines
@@ -142,4 +134,4 @@ module _ {s t : Search} {bytes : List ℕ} {i : ℕ} (c : Passing s bytes t i) w
   unfolding afterLines
   pass-all h = sym (ap (afterLines t 0) (drop-of-length-le bytes h)) ∙ c .is
 
-pub ruleset passes = (line-of, line-not, pass-none, pass-more, pass-all, needs)
+pub ruleset passes = (pass-none, pass-more, pass-all, needs)

@@ -5,22 +5,17 @@ use mathlib.Core.Bool.{Bool, true, false}
 use lib.ListN.{length, drop}
 use lib.Dec.{leb, eqb}
 use Rattle.machine.specs.Lists.{pick}
-use Rattle.format.specs.Answers.{accepted}
+use Rattle.format.specs.Answers.{accepted, noRoom, noSuchItem}
 use Rattle.format.specs.declared.TypeRead.{TypeRead}
 use Rattle.format.specs.declared.TypeRead.the-variants.{Of, NoType}
 use Rattle.reading.specs.Check.{checkOf}
 use Rattle.reading.specs.declared.Answer.{Answer}
 use Rattle.descriptions.specs.Texts.{merged, limitFor}
-use Rattle.writer.specs.Writing.{noRoom}
 use Rattle.items.specs.Search.{noFields, started, afterLines}
 use Rattle.items.specs.declared.ItemFields.{ItemFields}
 use Rattle.items.specs.declared.Found.{Found}
 use Rattle.items.specs.declared.Search.{Search}
 use Rattle.items.specs.declared.ItemRead.{ItemRead}
-
--- 'no such batch or item'
-abbrev pub noSuchItem : ℕ
-noSuchItem = 13
 
 abbrev pub told : ℕ → ℕ → ℕ → ItemFields → ItemRead
 told number line column fields = record { answer = number; line = line; column = column; fields = fields }

@@ -8,16 +8,15 @@ use Prim.Native.Nat.{ℕ, zero, suc}
 use lib.ListN.{length, take, drop}
 use lib.Dec.{leb}
 use Rattle.machine.specs.Lists.{pick, spaces}
-use Rattle.format.specs.Answers.{accepted}
+use Rattle.format.specs.Answers.{accepted, noRoom, noSuchItem}
 use Rattle.format.specs.Rules.{typeOf}
 use Rattle.format.specs.Language.{Name, Item, Batch, File, Reads}
 use Rattle.format.specs.Cutting.{AreLines}
 use Rattle.format.specs.Statements.{InLanguage}
 use Rattle.reading.specs.Check.{checkOf}
 use Rattle.descriptions.specs.Texts.{mergeOf, limitFor, inPlaces}
-use Rattle.writer.specs.Writing.{noRoom}
 use Rattle.items.specs.Search.{noFields}
-use Rattle.items.specs.Answering.{noSuchItem, told}
+use Rattle.items.specs.Answering.{told}
 use Rattle.items.specs.declared.ItemFields.{ItemFields}
 use Rattle.items.specs.declared.ItemRead.{ItemRead}
 

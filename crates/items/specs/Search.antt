@@ -1,17 +1,14 @@
 -- The search for item k of batch b, each from 1, through a file's records.
 use Prim.Native.Nat.{ℕ, zero, suc, _-_}
 use mathlib.Core.List.{List, [], _∷_, _++_}
-use mathlib.Core.Bool.{Bool, true, false}
+use mathlib.Core.Bool.{Bool, true, false, _||_}
 use lib.ListN.{take}
 use lib.Dec.{eqb}
-use Rattle.machine.specs.Lists.{pick, spaces}
-use Rattle.format.specs.Records.{Fields}
+use Rattle.machine.specs.Lists.{pick, same, spaces}
+use Rattle.format.specs.Records.{code}
 use Rattle.format.specs.declared.Kind.{Kind}
-use Rattle.format.specs.declared.Kind.the-variants.{FileHeader, BatchHeaderB, BatchHeaderC, FixedDescription, OrderingParty, Transaction, NamePayer, CityPayer, PaymentReference, Description, NameBeneficiary, CityBeneficiary, BatchTrailer, FileTrailer}
-use Rattle.format.specs.declared.Code.{Code}
-use Rattle.format.specs.declared.Code.the-variants as code
+use Rattle.format.specs.declared.Kind.the-variants.{BatchHeaderB, BatchHeaderC, FixedDescription, Transaction, NamePayer, PaymentReference, Description, NameBeneficiary}
 use Rattle.format.specs.declared.TypeRead.the-variants.{Of, NoType}
-use Rattle.record.specs.Kinds.{codeOf}
 use Rattle.record.specs.Read.{transactionFor, valuesOf}
 use Rattle.record.specs.declared.Transaction as items
 use Rattle.descriptions.specs.Texts.{noTexts, withText}
@@ -97,29 +94,26 @@ referred s t = pick (s .here) (finding s (withReference (s .found) t)) s
 unfoldable pub named : Search → List ℕ → Search
 named s t = pick (s .here) (finding s (withName (s .found) t)) s
 
-abbrev pub afterFor : Search → (k : Kind) → Fields k → Search
-afterFor s FileHeader x = s
-afterFor s BatchHeaderB x = headed s
-afterFor s BatchHeaderC x = headed s
-afterFor s FixedDescription x = fixed s (x .0)
-afterFor s OrderingParty x = s
-afterFor s Transaction x = opened s (transactionFor x)
-afterFor s NamePayer x = named s (x .0)
-afterFor s CityPayer x = s
-afterFor s PaymentReference x = referred s (x .0)
-afterFor s Description x = described s (x .0)
-afterFor s NameBeneficiary x = named s (x .0)
-afterFor s CityBeneficiary x = s
-afterFor s BatchTrailer x = s
-afterFor s FileTrailer x = s
+-- a line begins with the code and variant of a kind
+abbrev pub begins : Kind → List ℕ → Bool
+begins k line = same (take 5 line) (code k)
 
--- a line, by the code and variant that it begins with
-abbrev pub afterCode : Search → List ℕ → Code → Search
-afterCode s line (code.Of k) = afterFor s k (valuesOf k line)
-afterCode s line code.Unknown = s
+unfoldable pub isName : List ℕ → Bool
+isName line = begins NameBeneficiary line || begins NamePayer line
 
+unfoldable pub isHeader : List ℕ → Bool
+isHeader line = begins BatchHeaderB line || begins BatchHeaderC line
+
+-- a line; one of another kind changes nothing
 unfoldable pub afterLine : Search → List ℕ → Search
-afterLine s line = afterCode s line (codeOf (take 5 line))
+afterLine s line =
+    pick (begins Transaction line) (opened s (transactionFor (valuesOf Transaction line)))
+    (pick (begins PaymentReference line) (referred s (valuesOf PaymentReference line .0))
+    (pick (begins Description line) (described s (valuesOf Description line .0))
+    (pick (isName line) (named s (valuesOf NamePayer line .0))
+    (pick (begins FixedDescription line) (fixed s (valuesOf FixedDescription line .0))
+    (pick (isHeader line) (headed s)
+    s)))))
 
 -- lines of 52 bytes, where k bytes of the line before are still to be passed
 unfoldable pub afterLines : Search → ℕ → List ℕ → Search

@@ -61,7 +61,7 @@ impl Search {
         let kind = fields.kind;
         if is_found(kind) {
             if out.len() < 128 {
-                return refusal(writer::NO_ROOM, file.line, 0);
+                return refusal(format::NO_ROOM, file.line, 0);
             }
             let texts = found.texts();
             place(&texts, out);
@@ -72,7 +72,7 @@ impl Search {
                 fields,
             };
         }
-        refusal(crate::NO_SUCH_ITEM, file.line, 0)
+        refusal(format::NO_SUCH_ITEM, file.line, 0)
     }
 }
 

@@ -11,9 +11,6 @@ mod text;
 
 pub use answer::item;
 
-// 13: no such batch or item.
-pub const NO_SUCH_ITEM: u8 = 13;
-
 // An item's own fields, of its name the first 24 characters; no type, zeros and spaces where there is none.
 pub struct ItemFields {
     pub kind: TypeRead,

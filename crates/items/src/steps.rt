@@ -2,15 +2,14 @@
 ghost use mathlib.Core.Path.{_≡_};
 ghost use Prim.Native.Nat.{_-_};
 ghost use lib.ListN.{take, drop};
+ghost use Rattle.machine.specs.Lists.{same};
 ghost use Rattle.format.specs.declared.Kind.the-variants as kinds;
 ghost use Rattle.record.specs.Read.{transactionFor, valuesOf};
-ghost use Rattle.items.specs.Search.{started, finding, headed, opened, fixed, described, referred, named, afterFor, afterLine, afterLines};
+ghost use Rattle.items.specs.Search.{started, finding, headed, opened, fixed, described, referred, named, isName, isHeader, afterLine, afterLines};
 use crate::Found;
 use crate::Search;
+use field::bytes::is_same;
 use field::bytes::part;
-use format::Code;
-use format::Kind;
-use record::kinds::code_of;
 use record::read::transaction_at;
 
 fn less_one(n: u64) -> u64
@@ -20,6 +19,24 @@ fn less_one(n: u64) -> u64
         return 0;
     }
     n - 1
+}
+
+fn begins(line: &[u8], code: &[u8]) -> bool
+    ensures { λ r. ⌜ r ≡ same (take 5 (now (line .entry))) (now (code .entry)) ⌝ }
+{
+    is_same(part(line, 0, 5), code)
+}
+
+fn is_name(line: &[u8]) -> bool
+    ensures { λ r. ⌜ r ≡ isName (now (line .entry)) ⌝ }
+{
+    begins(line, b"0170B") | begins(line, b"0110B")
+}
+
+fn is_header(line: &[u8]) -> bool
+    ensures { λ r. ⌜ r ≡ isHeader (now (line .entry)) ⌝ }
+{
+    begins(line, b"0010B") | begins(line, b"0010C")
 }
 
 impl Search {
@@ -132,36 +149,29 @@ impl Search {
         self
     }
 
-    // At a record of a kind.
-    fn after(self, k: Kind, line: &[u8]) -> Search
-        ensures { λ r. ⌜ r ≡ afterFor self k (valuesOf k (now (line .entry))) ⌝ }
-    {
-        match k {
-            Kind::FileHeader => self,
-            Kind::BatchHeaderB => self.headed(),
-            Kind::BatchHeaderC => self.headed(),
-            Kind::FixedDescription => self.fixed(line),
-            Kind::OrderingParty => self,
-            Kind::Transaction => self.opened(line),
-            Kind::NamePayer => self.named(line),
-            Kind::CityPayer => self,
-            Kind::PaymentReference => self.referred(line),
-            Kind::Description => self.described(line),
-            Kind::NameBeneficiary => self.named(line),
-            Kind::CityBeneficiary => self,
-            Kind::BatchTrailer => self,
-            Kind::FileTrailer => self,
-        }
-    }
-
+    // A line, by the code and variant that it begins with. (The reader's own look-up is not called: a second caller would slow the reading of every line.)
     fn line(self, line: &[u8]) -> Search
         ensures { λ r. ⌜ r ≡ afterLine self (now (line .entry)) ⌝ }
     {
-        let code = code_of(line);
-        match code {
-            Code::Of(k) => self.after(k, line),
-            Code::Unknown => self,
+        if begins(line, b"0100A") {
+            return self.opened(line);
         }
+        if begins(line, b"0150A") {
+            return self.referred(line);
+        }
+        if begins(line, b"0160A") {
+            return self.described(line);
+        }
+        if is_name(line) {
+            return self.named(line);
+        }
+        if begins(line, b"0020A") {
+            return self.fixed(line);
+        }
+        if is_header(line) {
+            return self.headed();
+        }
+        self
     }
 
     // All lines of some bytes.

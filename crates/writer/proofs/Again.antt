@@ -11,7 +11,7 @@ use lib.Seq.{take-at, drop-at}
 use lib.Dec.{T, eqb, eqb→eq}
 use Rattle.machine.specs.Lists.{pick, all, same, isDigit, isSpace, spaces}
 use Rattle.machine.specs.Digits.{pow10, decimal, valueOf}
-use Rattle.machine.proofs.Base.{and-l, of-eq, same→eq}
+use Rattle.machine.proofs.Base.{and-l, of-eq, yes, same→eq}
 use Rattle.machine.proofs.Digits.{spaces-blank}
 use Rattle.format.specs.Fields.{Field, numeric, Values, writeField, writeFields, Fits}
 use Rattle.format.specs.Records.{layout, code, Fields, creationDate, fileName, sender, identification, duplicateCode, group, orderingAccount, sequence, currency, batchIdentification, nameCode, desiredDate, partyName, testCode, type, amount, payer, beneficiary, totalAmount, totalAccounts, items}
@@ -38,7 +38,7 @@ use Rattle.writer.specs.declared.Entry.{Entry}
 use Rattle.writer.specs.declared.Entry.the-variants.{FileHeader, BatchHeader, FixedDescription, OrderingParty, Item, NamePayer, PaymentReference, Description, NameBeneficiary, BatchTrailer, FileTrailer}
 use Rattle.writer.proofs.Building.{exact}
 use Rattle.writer.proofs.Accepting.{accepts, accepted-line}
-use Rattle.writer.proofs.Back.{yes, padded-is}
+use Rattle.writer.proofs.Back.{padded-is}
 
 -- ## Fields
 

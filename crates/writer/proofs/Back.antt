@@ -10,7 +10,7 @@ use lib.Seq.{paste, take-at, drop-at, take-all, length-take-le}
 use lib.Dec.{T, ltb}
 use Rattle.machine.specs.Lists.{pick, all, same, isDigit, isSpace, spaces}
 use Rattle.machine.specs.Digits.{pow10, decimal, valueOf}
-use Rattle.machine.proofs.Base.{of-eq, append-inj}
+use Rattle.machine.proofs.Base.{of-eq, yes, append-inj}
 use Rattle.machine.proofs.Digits.{length-decimal, decimal-digits, value-decimal, blank}
 use Rattle.format.specs.Fields.{Field, numeric, filled, optional, free, filler, width, Value, Values, widths, printable, leftJustified, wellFormed, readField, writeField, writeFields, Fits}
 use Rattle.format.specs.Records.{layout, code}
@@ -188,10 +188,6 @@ test-of : (b : Bool) → same (take 1 (testText b)) (84 ∷ []) ≡ b
 unfolding same
 test-of true = refl
 test-of false = refl
-
-pub yes : (b : Bool) → T b → b ≡ true
-yes true t = refl
-yes false t = absurd t
 
 decimal-of : (i : ℕ) → i < pow10 4 → digitsOf (take 4 (decimal 4 i)) .value ≡ i
 decimal-of i h =

@@ -1,0 +1,15 @@
+use borrow.Author.Needs.{needs}
+use Rattle.items.proofs.Searching.{eithers}
+use Rattle.items.proofs.steps.is_header.Statement.{statement}
+use Rattle.items.proofs.steps.is_header.Tie as tie
+
+pub is-header-spec : {M : Type 1} → statement M
+is-header-spec =
+    tie.close
+    (tie.spec
+    (λ c. search needs)  -- slice-aggregate-begins
+    (λ c κs. search needs)  -- begins-requires
+    (λ c. search needs)  -- slice-aggregate-begins-2
+    (λ c κs. search needs)  -- begins-requires-2
+    (λ c. search eithers depth 20 fits 10000)  -- returns
+    )
