@@ -1,10 +1,9 @@
 // Prints the listing of the file on standard input: its header, each closed batch, and the answer.
-mod page;
-
 use field::bytes::part;
 use format::Group;
 use libc::STDIN_FILENO;
 use libc::STDOUT_FILENO;
+use page::put_answer;
 use page::put_line;
 use page::put_number;
 use reading::State;
@@ -52,16 +51,6 @@ fn put_batch(page: &mut [u8], at: usize, state: State) -> usize {
     let d = put_number(page, c, b"items=", batch.items, 1);
     let e = put_number(page, d, b"amount=", batch.total, 1);
     put_number(page, e, b"accounts=", batch.accounts, 10)
-}
-
-fn put_answer(page: &mut [u8], at: usize, answer: u8, line: u64, column: u8) -> usize {
-    let a = put_number(page, at, b"answer=", wide(answer), 1);
-    let b = put_number(page, a, b"line=", line, 1);
-    put_number(page, b, b"column=", wide(column), 1)
-}
-
-fn wide(x: u8) -> u64 {
-    x as u64
 }
 
 // What a record that was read adds; state is the one before it.

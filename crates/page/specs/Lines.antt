@@ -1,0 +1,47 @@
+-- Key=value lines on a page: its bytes, and how far it is filled.
+use Prim.Native.Nat.{ℕ, zero, suc, _+_, _-_}
+use mathlib.Core.List.{List, [], _∷_, _++_}
+use lib.ListN.{length, take, drop}
+use lib.Dec.{leb, eqb}
+use Rattle.machine.specs.Lists.{pick}
+use Rattle.machine.specs.Digits.{decimal}
+
+-- 'Each line ends in byte 10'
+abbrev pub lineOf : List ℕ → List ℕ → List ℕ
+lineOf key text = key ++ (text ++ (10 ∷ []))
+
+-- bytes at a place, and the others as they were
+unfoldable pub placed : List ℕ → ℕ → List ℕ → List ℕ
+placed page at text = (take at page ++ text) ++ drop (at + length text) page
+
+-- A LINE ON A PAGE: after what it is filled with; where it has no room it is left out whole
+unfoldable pub withLine : List ℕ × ℕ → List ℕ → List ℕ × ℕ
+withLine (page, at) line = pick (leb (at + length line) (length page)) (placed page at line, at + length line) (page, at)
+
+-- without the zeros in front, of which so many may be left out
+unfoldable pub withoutZeros : ℕ → List ℕ → List ℕ
+withoutZeros zero l = l
+withoutZeros (suc k) [] = []
+withoutZeros (suc k) (c ∷ l) = pick (eqb c 48) (withoutZeros k l) (c ∷ l)
+
+-- A NUMBER of at least so many digits: one at any rate, and no more than twenty
+unfoldable pub numberText : ℕ → ℕ → List ℕ
+numberText least n = withoutZeros (19 - (least - 1)) (decimal 20 n)
+
+-- answer=, line= and column=
+abbrev pub answerKey : List ℕ
+answerKey = 97 ∷ 110 ∷ 115 ∷ 119 ∷ 101 ∷ 114 ∷ 61 ∷ []
+
+abbrev pub lineKey : List ℕ
+lineKey = 108 ∷ 105 ∷ 110 ∷ 101 ∷ 61 ∷ []
+
+abbrev pub columnKey : List ℕ
+columnKey = 99 ∷ 111 ∷ 108 ∷ 117 ∷ 109 ∷ 110 ∷ 61 ∷ []
+
+-- THE LAST THREE LINES: 'the last three have no leading zeros'
+unfoldable pub withAnswer : List ℕ × ℕ → ℕ → ℕ → ℕ → List ℕ × ℕ
+withAnswer page answer line column =
+    withLine (withLine (withLine page
+    (lineOf answerKey (numberText 1 answer)))
+    (lineOf lineKey (numberText 1 line)))
+    (lineOf columnKey (numberText 1 column))
