@@ -1,15 +1,14 @@
-// Prints the listing of the file on standard input: its header, each closed batch, and the answer.
+// Prints the listing of each file that its arguments name, or of standard input: its header, each closed batch, and the answer.
 use field::bytes::part;
 use format::Group;
-use libc::STDIN_FILENO;
-use libc::STDOUT_FILENO;
 use page::put_answer;
 use page::put_line;
 use page::put_number;
 use reading::State;
 use record::Record;
 
-// The listing so far: the answer to the last line, the state after it, how much is gathered, and whether there may be more to read.
+// The listing so far: the answer to the last line, the state after it, how much is gathered, whether there may be more to read,
+// and whether a read failed.
 struct Listed {
     answer: u8,
     line: u64,
@@ -17,6 +16,7 @@ struct Listed {
     state: State,
     at: usize,
     more: bool,
+    failed: bool,
 }
 
 fn put_header(
@@ -74,7 +74,7 @@ fn put_record(page: &mut [u8], at: usize, state: State, read: Record, sender: &[
 fn make_room(page: &[u8], at: usize) -> usize {
     if at <= page.len() {
         if page.len() - at < 512 {
-            io::write_all(STDOUT_FILENO, part(page, 0, at));
+            streams::print(part(page, 0, at));
             return 0;
         }
     }
@@ -97,6 +97,7 @@ fn list_line(before: Listed, rest: &[u8], page: &mut [u8]) -> Listed {
         state: next,
         at,
         more: true,
+        failed: false,
     }
 }
 
@@ -115,21 +116,23 @@ fn list_lines(before: Listed, bytes: &[u8], page: &mut [u8]) -> Listed {
 }
 
 // A buffer of 1,260 lines. It comes short at the end of the input only.
-fn list_some(before: Listed, page: &mut [u8]) -> Listed {
+fn list_some(before: Listed, fd: i32, name: &[u8], page: &mut [u8]) -> Listed {
     let mut buffer = [0u8; 65520];
-    let n = io::read_full(STDIN_FILENO, &mut buffer);
+    let filled = streams::fill(fd, name, &mut buffer);
+    let n = filled.count;
     let mut listed = list_lines(before, &buffer[..n], page);
     listed.more = (n == 65520) & (listed.answer == 0);
+    listed.failed = filled.failed;
     listed
 }
 
 // The rest of the input. A proved loop has to end, so this one counts its turns down from a number that no run uses up.
-fn list_rest(before: Listed, page: &mut [u8]) -> Listed {
+fn list_rest(before: Listed, fd: i32, name: &[u8], page: &mut [u8]) -> Listed {
     let mut listed = before;
     let mut turns = u64::MAX;
     while 0 < turns {
         if listed.more {
-            listed = list_some(listed, page);
+            listed = list_some(listed, fd, name, page);
         } else {
             return listed;
         }
@@ -152,23 +155,53 @@ fn put_end(listed: Listed, page: &mut [u8]) -> usize {
     put_answer(page, room, listed.answer, listed.line, listed.column)
 }
 
-fn list_file(page: &mut [u8]) {
+fn put_input(page: &mut [u8], name: &[u8], several: bool) -> usize {
+    if several {
+        return put_line(page, 0, b"input=", name);
+    }
+    0
+}
+
+fn list_file(fd: i32, name: &[u8], several: bool, page: &mut [u8]) {
     let state = State::start();
+    let at = put_input(page, name, several);
     let listed = Listed {
         answer: 0,
         line: 0,
         column: 0,
         state,
-        at: 0,
+        at,
         more: true,
+        failed: false,
     };
-    let read = list_rest(listed, page);
+    let read = list_rest(listed, fd, name, page);
+    if read.failed {
+        return;
+    }
     let end = ended(read, page);
     let at = put_end(end, page);
-    io::write_all(STDOUT_FILENO, part(page, 0, at));
+    streams::print(part(page, 0, at));
+}
+
+// The file of argument i, or standard input.
+fn list_input(i: usize, several: bool, page: &mut [u8]) {
+    let mut name = io::buffer();
+    let input = streams::open(i, &mut name);
+    let n = input.name;
+    if 0 <= input.fd {
+        list_file(input.fd, &name[..n], several, page);
+        libc::close(input.fd);
+    }
 }
 
 fn main() {
     let mut page = [0u8; 8192];
-    list_file(&mut page);
+    let arguments = os::arg_count();
+    let several = 2 < arguments;
+    list_input(1, several, &mut page);
+    let mut i = 2;
+    while i < arguments {
+        list_input(i, several, &mut page);
+        i += 1;
+    }
 }

@@ -5,10 +5,10 @@ use Rattle.listing.proofs.list_rest.Statement.{statement}
 use Rattle.listing.proofs.list_rest.Tie as tie
 
 abbrev Inv-loop : tie.InvT-loop
-Inv-loop page₀ listed₀ turns₀ page listed turns = length page ≡ length page₀
+Inv-loop fd name page₀ listed₀ turns₀ page listed turns = length page ≡ length page₀
 
 abbrev μ-loop : tie.MeasureT-loop
-μ-loop page₀ listed₀ turns₀ page listed turns = turns
+μ-loop fd name page₀ listed₀ turns₀ page listed turns = turns
 
 pub list-rest-spec : {M : Type 1} → statement M
 list-rest-spec =
@@ -16,13 +16,13 @@ list-rest-spec =
     (tie.spec
     Inv-loop
     μ-loop
-    (λ c. search needs)
-    (λ c κs. search needs)
-    (λ c. search needs)
-    (λ c. search needs)
-    (λ c. search needs)
-    (λ c. search needs)
-    (λ c. search needs)
-    (λ c. search needs)
-    (λ c. search needs)
+    (λ c. search needs)  -- loop-holds
+    (λ c κs. search needs)  -- list-some-requires
+    (λ c. search needs)  -- same-length
+    (λ c. search needs)  -- returns
+    (λ c. search needs)  -- sub-turns
+    (λ c. search needs)  -- loop-less
+    (λ c. search needs)  -- loop-again
+    (λ c. search needs)  -- same-length-2
+    (λ c. search needs)  -- returns-2
     )

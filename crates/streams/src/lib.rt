@@ -1,0 +1,101 @@
+// What the programs read and write: the files that their arguments name, standard input and standard output. What cannot be
+// opened, read or written is told on standard error, in one line. No contract can say which bytes C reads or writes.
+ghost use Prim.Native.Nat.{_+_, _≤_};
+ghost use lib.ListN.{length};
+ghost use Rattle.io.specs.Counts.{Counts};
+use libc::STDIN_FILENO;
+use libc::STDOUT_FILENO;
+
+// An input: its descriptor, which is negative where it cannot be opened, and how long its name is.
+pub struct Input {
+    pub fd: i32,
+    pub name: usize,
+}
+
+// How many bytes of a buffer were read, and whether a read failed.
+pub struct Filled {
+    pub count: usize,
+    pub failed: bool,
+}
+
+fn open_named(name: &[u8]) -> i32 {
+    let fd = os::open_read(name);
+    if fd < 0 {
+        os::fail(name);
+    }
+    fd
+}
+
+// Opens the file that argument i names, and puts the name at the start of the buffer. Without argument i it is standard input, whose
+// name is empty.
+pub fn open(i: usize, name: &mut [u8]) -> Input
+    ensures { λ r. ⌜ Counts (r .name) (now (name .exit)) ⌝ }
+{
+    let n = os::arg(i, name);
+    let error = os::errno();
+    if error == libc::EINVAL {
+        return Input {
+            fd: STDIN_FILENO,
+            name: n,
+        };
+    }
+    if error != 0 {
+        os::fail(b"file name");
+        return Input { fd: -1, name: n };
+    }
+    let fd = open_named(&name[..n]);
+    Input { fd, name: n }
+}
+
+fn tell(name: &[u8]) {
+    if name.len() == 0 {
+        os::fail(b"standard input");
+    } else {
+        os::fail(name);
+    }
+}
+
+// One read into a buffer from a place on.
+fn read_some(fd: i32, name: &[u8], buffer: &mut [u8], at: usize) -> Filled
+    requires { ⌜ at ≤ length (now buffer) ⌝ }
+    ensures { λ r. ⌜ at + r .count ≤ length (now (buffer .exit)) ⌝ }
+{
+    let got = libc::read(fd, &mut buffer[at..]);
+    let count = io::count(got, &buffer[at..]);
+    let failed = got < 0;
+    if failed {
+        tell(name);
+    }
+    Filled { count, failed }
+}
+
+// Reads until the buffer is full, the input of that name ends, or a read fails.
+pub fn fill(fd: i32, name: &[u8], buffer: &mut [u8]) -> Filled
+    ensures { λ r. ⌜ Counts (r .count) (now (buffer .exit)) ⌝ }
+{
+    let mut done: usize = 0;
+    while done < buffer.len() {
+        let more = read_some(fd, name, buffer, done);
+        if more.count == 0 {
+            return Filled {
+                count: done,
+                failed: more.failed,
+            };
+        }
+        done += more.count;
+    }
+    Filled {
+        count: done,
+        failed: false,
+    }
+}
+
+// Writes to standard output, and answers whether it could.
+pub fn print(bytes: &[u8]) -> bool {
+    let written = io::write_all(STDOUT_FILENO, bytes);
+    if written {
+        return true;
+    }
+    os::fail(b"standard output");
+    false
+}
