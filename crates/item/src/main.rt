@@ -10,6 +10,7 @@ use items::ItemRead;
 use items::Search;
 use libc::STDERR_FILENO;
 use page::put_answer;
+use page::put_input;
 use page::put_line;
 use page::put_number;
 use reading::Answer;
@@ -146,13 +147,6 @@ fn ended(file: Checked) -> Answer {
     end.answer
 }
 
-fn put_input(page: &mut [u8], name: &[u8], several: bool) -> usize {
-    if several {
-        return put_line(page, 0, b"input=", name);
-    }
-    0
-}
-
 fn print_found(found: ItemRead, texts: &[u8], name: &[u8], several: bool) {
     let mut page = [0u8; 8192];
     let fields = found.fields;
@@ -234,7 +228,7 @@ fn main() {
     } else {
         io::write_all(
             STDERR_FILENO,
-            b"usage: item B K [FILE..], where B and K are numbers\n",
+            b"usage: item B K [FILE..], where B and K are numbers of at most 18 digits\n",
         );
     }
 }

@@ -2,6 +2,7 @@
 use field::bytes::part;
 use format::Group;
 use page::put_answer;
+use page::put_input;
 use page::put_line;
 use page::put_number;
 use reading::State;
@@ -153,13 +154,6 @@ fn ended(listed: Listed, page: &mut [u8]) -> Listed {
 fn put_end(listed: Listed, page: &mut [u8]) -> usize {
     let room = make_room(page, listed.at);
     put_answer(page, room, listed.answer, listed.line, listed.column)
-}
-
-fn put_input(page: &mut [u8], name: &[u8], several: bool) -> usize {
-    if several {
-        return put_line(page, 0, b"input=", name);
-    }
-    0
 }
 
 fn list_file(fd: i32, name: &[u8], several: bool, page: &mut [u8]) {

@@ -11,7 +11,7 @@ use lib.ListN.{length, getD, set, take, drop, length-set, length-append}
 use lib.Seq.{paste, paste-zero, paste-suc, length-paste, take-paste, drop-paste, take-all, drop-drop}
 use lib.Dec.{leb, ltb}
 use Rattle.machine.specs.Lists.{pick}
-use Rattle.page.specs.Lines.{lineOf, placed, withLine}
+use Rattle.page.specs.Lines.{lineOf, placed, withLine, inputKey, withInput}
 
 -- ## Room
 
@@ -136,3 +136,16 @@ module _ {r : Bool} (page : List ℕ) (at : ℕ) (key text : List ℕ) (e : r �
         ap₂ (λ u v. (u, v)) all w ∙ rw (s, ← e, h) refl
 
 pub ruleset puts = (line-left, both-fit, end-fits, line-put, needs)
+
+-- ## The name of an input
+
+module _ {b : Bool} (page name : List ℕ) where
+  pub input-put : {o : List ℕ × ℕ} → b ≡ true → o ≡ withLine (page, 0) (lineOf inputKey name) → o ≡ withInput page name b
+  unfolding withInput pick
+  input-put h p = rw h p
+
+  pub input-none : b ≡ false → (page, 0) ≡ withInput page name b
+  unfolding withInput pick
+  input-none h = rw h refl
+
+pub ruleset inputs = (input-put, input-none, needs)

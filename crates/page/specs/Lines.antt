@@ -1,6 +1,7 @@
 -- Key=value lines on a page: its bytes, and how far it is filled.
 use Prim.Native.Nat.{ℕ, zero, suc, _+_, _-_}
 use mathlib.Core.List.{List, [], _∷_, _++_}
+use mathlib.Core.Bool.{Bool}
 use lib.ListN.{length, take, drop}
 use lib.Dec.{leb, eqb}
 use Rattle.machine.specs.Lists.{pick}
@@ -45,3 +46,11 @@ withAnswer page answer line column =
     (lineOf answerKey (numberText 1 answer)))
     (lineOf lineKey (numberText 1 line)))
     (lineOf columnKey (numberText 1 column))
+
+-- input=
+abbrev pub inputKey : List ℕ
+inputKey = 105 ∷ 110 ∷ 112 ∷ 117 ∷ 116 ∷ 61 ∷ []
+
+-- THE NAME OF AN INPUT, where there are several
+unfoldable pub withInput : List ℕ → List ℕ → Bool → List ℕ × ℕ
+withInput page name several = pick several (withLine (page, 0) (lineOf inputKey name)) (page, 0)

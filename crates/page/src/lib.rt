@@ -5,7 +5,7 @@ ghost use Prim.Native.Nat.{_+_, _-_, _≤_, _<_};
 ghost use lib.ListN.{length, drop};
 ghost use lib.Dec.{leb};
 ghost use Rattle.machine.specs.Digits.{decimal};
-ghost use Rattle.page.specs.Lines.{lineOf, placed, withLine, withoutZeros, numberText, withAnswer};
+ghost use Rattle.page.specs.Lines.{lineOf, placed, withLine, withoutZeros, numberText, withAnswer, withInput};
 
 // Whether a line of that key and text has room.
 fn has_room(size: usize, at: usize, key: usize, text: usize) -> bool
@@ -133,4 +133,14 @@ pub fn put_answer(page: &mut [u8], at: usize, answer: u8, line: u64, column: u8)
     let a = put_number(page, at, b"answer=", wide(answer), 1);
     let b = put_number(page, a, b"line=", line, 1);
     put_number(page, b, b"column=", wide(column), 1)
+}
+
+// The name of an input at the start of a page, where there are several.
+pub fn put_input(page: &mut [u8], name: &[u8], several: bool) -> usize
+    ensures { λ r. ⌜ (now (page .exit), r) ≡ withInput (now (page .entry)) (now (name .entry)) several ⌝ }
+{
+    if several {
+        return put_line(page, 0, b"input=", name);
+    }
+    0
 }

@@ -3,7 +3,7 @@
 use field::bytes::part;
 use libc::STDERR_FILENO;
 use page::put_answer;
-use page::put_line;
+use page::put_input;
 use reading::State;
 use record::Record;
 use writer::Entry;
@@ -170,13 +170,6 @@ fn ended(copied: Copied, page: &mut [u8]) -> Copied {
     } else {
         copied
     }
-}
-
-fn put_input(page: &mut [u8], name: &[u8], several: bool) -> usize {
-    if several {
-        return put_line(page, 0, b"input=", name);
-    }
-    0
 }
 
 // Tells why a file was refused.
