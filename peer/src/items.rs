@@ -56,73 +56,115 @@ impl Descriptions {
     }
 }
 
+/// What was seen so far of the item that is looked for.
+struct Search {
+    batch: u64,
+    item: u64,
+    /// Batches begun so far, and items of the last one.
+    at_batch: u64,
+    at_item: u64,
+    transaction: Option<Transaction>,
+    reference: Option<[u8; 16]>,
+    name: [u8; 24],
+    /// Descriptions of the batch, then of the item.
+    fixed: Descriptions,
+    own: Descriptions,
+}
+
+impl Search {
+    fn new(batch: u64, item: u64) -> Self {
+        Self {
+            batch,
+            item,
+            at_batch: 0,
+            at_item: 0,
+            transaction: None,
+            reference: None,
+            name: [b' '; 24],
+            fixed: Descriptions::none(),
+            own: Descriptions::none(),
+        }
+    }
+
+    /// Counts a record and keeps it if it belongs to the item.
+    fn see(&mut self, record: &Record) {
+        match record {
+            Record::BatchHeader(_) => {
+                self.at_batch += 1;
+                self.at_item = 0;
+            }
+            Record::Transaction(_) => self.at_item += 1,
+            _ => {}
+        }
+        if self.at_batch != self.batch {
+            return;
+        }
+        if let Record::FixedDescription(text) = record {
+            self.fixed.push(text);
+        }
+        // The items of a batch end with its trailer, but no record that is
+        // kept comes between it and the next.
+        if self.at_item == self.item {
+            self.keep(record);
+        }
+    }
+
+    fn keep(&mut self, record: &Record) {
+        match record {
+            Record::Transaction(fields) => self.transaction = Some(*fields),
+            Record::Reference(text) => self.reference = Some(*text),
+            Record::Description(text) => self.own.push(text),
+            Record::PayerName(text) | Record::BeneficiaryName(text) => {
+                self.name.copy_from_slice(&text[..24]);
+            }
+            _ => {}
+        }
+    }
+
+    /// The fixed descriptions, then the item's own, cut to four, or to three
+    /// with a reference.
+    fn merge(&self, room: &mut [u8; DESCRIPTION_ROOM]) {
+        let places = if self.reference.is_some() { 3 } else { 4 };
+        let texts = self.fixed.iter().chain(self.own.iter()).take(places);
+        room.fill(b' ');
+        for (place, text) in room.chunks_exact_mut(32).zip(texts) {
+            place.copy_from_slice(text);
+        }
+    }
+}
+
 /// Hands out item `item` of batch `batch`, each counted from 1, and fills the
 /// first 128 bytes of `out` with its descriptions.
 ///
 /// The file's own refusal comes first, then 13, then 12. With any answer but
 /// 0 `out` stays as it was; bytes beyond the first 128 always do.
 pub fn item(file: &[u8], batch: u64, item: u64, out: &mut [u8]) -> Item {
-    let mut at_batch = 0;
-    let mut at_item = 0;
-    let mut transaction: Option<Transaction> = None;
-    let mut reference: Option<[u8; 16]> = None;
-    let mut name = [b' '; 24];
-    let mut fixed = Descriptions::none();
-    let mut own = Descriptions::none();
-
+    let mut search = Search::new(batch, item);
     let read = each(file, |_, record| {
-        match record {
-            Record::BatchHeader(_) => {
-                at_batch += 1;
-                at_item = 0;
-            }
-            Record::Transaction(_) => at_item += 1,
-            _ => {}
-        }
-        if at_batch == batch {
-            match record {
-                Record::FixedDescription(text) => fixed.push(text),
-                // The items of a batch end with its trailer, but no record
-                // that is looked for below comes between it and the next.
-                Record::Transaction(fields) if at_item == item => transaction = Some(*fields),
-                Record::Reference(text) if at_item == item => reference = Some(*text),
-                Record::Description(text) if at_item == item => own.push(text),
-                Record::PayerName(text) | Record::BeneficiaryName(text) if at_item == item => {
-                    name.copy_from_slice(&text[..24]);
-                }
-                _ => {}
-            }
-        }
+        search.see(record);
         Ok::<(), std::convert::Infallible>(())
     });
     let answer = match read {
         Ok(answer) => answer,
         Err(never) => match never {},
     };
-
     if !answer.is_accepted() {
         return Item::refused(answer);
     }
-    let Some(transaction) = transaction else {
+    let Some(transaction) = search.transaction else {
         return Item::refused(Answer::new(number::NO_SUCH_ITEM, answer.line, 0));
     };
     let Some(room) = out.first_chunk_mut::<DESCRIPTION_ROOM>() else {
         return Item::refused(Answer::new(number::ROOM, answer.line, 0));
     };
-
-    let places = if reference.is_some() { 3 } else { 4 };
-    room.fill(b' ');
-    for (place, text) in room.chunks_exact_mut(32).zip(fixed.iter().chain(own.iter()).take(places))
-    {
-        place.copy_from_slice(text);
-    }
+    search.merge(room);
     Item {
         answer,
         kind: Some(transaction.kind),
         amount: transaction.amount,
         payer: transaction.payer,
         beneficiary: transaction.beneficiary,
-        reference: reference.unwrap_or([b' '; 16]),
-        name,
+        reference: search.reference.unwrap_or([b' '; 16]),
+        name: search.name,
     }
 }

@@ -17,6 +17,7 @@ mod check;
 mod fields;
 mod items;
 mod listing;
+mod order;
 mod records;
 mod state;
 mod writer;

@@ -1,5 +1,5 @@
-//! Reading line by line: the state so far, which records may come next, and
-//! what each line does to the state.
+//! Reading line by line: the state so far, the fields of a line against it,
+//! and what each line does to the state.
 
 use crate::answer::{number, Answer};
 use crate::fields::{Fault, Fields};
@@ -150,50 +150,6 @@ impl State {
             && self.own <= Batch::MAX_DESCRIPTIONS
     }
 
-    /// May a record of this kind come now?
-    fn allows(&self, kind: Kind) -> bool {
-        use Place::{City, Description, FixedDescription, Name, Reference, Start};
-        let place = self.place;
-        // The last record was 0100, or a record that may stand between an
-        // 0100 and the name of a payment.
-        let before_name = matches!(place, Place::Transaction | Reference | Description);
-        let in_item = before_name || matches!(place, Name | City);
-        // The name is there, or isn't to be.
-        let name_settled = self.named || !self.unchecked;
-
-        match kind {
-            Kind::FileHeader => place == Start,
-            Kind::BatchHeader(_) => matches!(place, Place::FileHeader | Place::BatchTrailer),
-            Kind::FixedDescription => {
-                matches!(place, Place::BatchHeader | FixedDescription)
-                    && self.fixed < Batch::MAX_DESCRIPTIONS
-            }
-            Kind::OrderingParty => matches!(place, Place::BatchHeader | FixedDescription),
-            Kind::Transaction => place == Place::OrderingParty || in_item && name_settled,
-            Kind::BatchTrailer => in_item && name_settled,
-            Kind::FileTrailer => place == Place::BatchTrailer,
-
-            Kind::PayerName => {
-                self.group == Group::Debits && self.unchecked && place == Place::Transaction
-            }
-            Kind::BeneficiaryName => self.group == Group::Payments && self.unchecked && before_name,
-            Kind::PayerCity => self.group == Group::Debits && place == Name,
-            Kind::BeneficiaryCity => self.group == Group::Payments && place == Name,
-            Kind::Reference => match self.group {
-                Group::Payments => place == Place::Transaction,
-                Group::Debits => matches!(place, Place::Transaction | Name | City) && name_settled,
-            },
-            Kind::Description => {
-                let most = Batch::MAX_DESCRIPTIONS - u8::from(self.referenced);
-                let may_come = match self.group {
-                    Group::Payments => before_name,
-                    Group::Debits => in_item && name_settled,
-                };
-                may_come && self.own < most
-            }
-        }
-    }
-
     /// Reads the fields from the left; the first fault is the answer.
     fn fields(&self, kind: Kind, line: &[u8; 50]) -> Result<Record, Fault> {
         let mut fields = Fields::after_code(line);
@@ -323,13 +279,7 @@ impl State {
         self.place = match record {
             Record::FileHeader(_) => Place::FileHeader,
             Record::BatchHeader(header) => {
-                self.group = header.group;
-                self.account = header.account;
-                self.sequence = header.sequence;
-                self.fixed = 0;
-                self.items = 0;
-                self.total = 0;
-                self.accounts = 0;
+                self.begin(header);
                 Place::BatchHeader
             }
             Record::FixedDescription(_) => {
@@ -358,6 +308,17 @@ impl State {
             Record::FileTrailer => Place::FileTrailer,
         };
         Ok(self)
+    }
+
+    /// Begins the next batch.
+    fn begin(&mut self, header: &BatchHeader) {
+        self.group = header.group;
+        self.account = header.account;
+        self.sequence = header.sequence;
+        self.fixed = 0;
+        self.items = 0;
+        self.total = 0;
+        self.accounts = 0;
     }
 
     /// Begins the next item and counts it in.
