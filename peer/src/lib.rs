@@ -20,6 +20,7 @@ mod listing;
 mod order;
 mod records;
 mod state;
+pub mod table;
 mod writer;
 
 pub use answer::{number, Answer};

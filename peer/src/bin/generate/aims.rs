@@ -1,0 +1,140 @@
+//! One file for each answer of the table.
+
+use peer::table::{reachable, Class, Field, Met, ANY, CODES, FIELDS, OTHER, SHORT, START};
+
+use crate::bytes::after_the_trailer;
+use crate::faults;
+use crate::line::{join, Line};
+use crate::random::Random;
+use crate::records::stray;
+use crate::scenarios::over_the_total;
+use crate::spoil::spoil_field;
+use crate::valid;
+
+/// All but item 100,001, which takes a huge file.
+pub fn all() -> Vec<Met> {
+    reachable().into_iter().filter(|aim| (aim.answer, aim.column) != (8, 1)).collect()
+}
+
+pub fn file(random: &mut Random, aim: Met) -> Vec<u8> {
+    match aim.answer {
+        0 => join(&valid::file(random)),
+        1 => broken(random, aim),
+        2 => unknown(random, aim),
+        3 => misplaced(random, aim),
+        8 => over_the_total(random),
+        10 => {
+            let (lines, upto) = valid::with_place(random, |lines| ends_in(lines, aim.after));
+            join(&lines[..upto])
+        }
+        11 => after_the_trailer(random),
+        _ => of_field(random, aim),
+    }
+}
+
+fn ends_in(lines: &[Line], code: &str) -> bool {
+    match lines.last() {
+        None => code == START,
+        Some(line) => code == ANY || line.is(code),
+    }
+}
+
+fn of_field(random: &mut Random, aim: Met) -> Vec<u8> {
+    let is_it = |field: &Field| (field.code, field.column) == (aim.record, aim.column);
+    let field = FIELDS.into_iter().find(is_it).expect("only fields have these answers");
+    let fits = |lines: &[Line]| {
+        ends_in(lines, field.code) && (aim.answer != 7 || can_differ(lines, field))
+    };
+    let (mut lines, upto) = valid::with_place(random, fits);
+    faults::put(random, &mut lines[upto - 1], field, aim.answer);
+    join(&lines)
+}
+
+/// Is there something that this field of the last line can differ from?
+fn can_differ(lines: &[Line], field: Field) -> bool {
+    let debits = lines.len() > 1 && lines[1].text(6, 2) == "10";
+    match field.class {
+        Class::Group | Class::Sequence => lines.len() > 2,
+        Class::NameCode => debits,
+        Class::Account => debits == (field.column == 32),
+        _ => true,
+    }
+}
+
+/// A line cut short, or of which the end is wrong.
+fn broken(random: &mut Random, aim: Met) -> Vec<u8> {
+    let (mut lines, upto) = valid::with_place(random, |lines| ends_in(lines, aim.after));
+    if aim.record == SHORT {
+        let length = upto * 52 + random.between(1, 51) as usize;
+        let mut bytes = join(&lines);
+        bytes.truncate(length);
+        return bytes;
+    }
+    let end = &mut lines[upto].end;
+    match random.below(4) {
+        0 => end[0] = random.byte_that(|byte| byte != 13),
+        1 => end[1] = random.byte_that(|byte| byte != 10),
+        2 => end.fill(b' '),
+        _ => end.swap(0, 1),
+    }
+    join(&lines)
+}
+
+/// A code that isn't in the table, or with a variant that isn't.
+fn unknown(random: &mut Random, aim: Met) -> Vec<u8> {
+    let after = if aim.after == ANY { *random.pick(&CODES[..13]) } else { aim.after };
+    let (mut lines, upto) = valid::with_place(random, |lines| ends_in(lines, after));
+    let code = match aim.record {
+        OTHER | ANY => unknown_code(random),
+        code => code.into(),
+    };
+    let mut line = lines[upto].clone();
+    line.set(1, code);
+    while CODES.iter().any(|code| line.is(code)) {
+        line.body[4] = random.byte();
+    }
+    lines.insert(upto, line);
+    join(&lines)
+}
+
+fn unknown_code(random: &mut Random) -> String {
+    loop {
+        let code = format!("{:04}", random.below(10_000));
+        if !CODES.iter().any(|known| known.starts_with(&code)) {
+            return code;
+        }
+    }
+}
+
+/// A record where it may not stand.
+fn misplaced(random: &mut Random, aim: Met) -> Vec<u8> {
+    let fits = |lines: &[Line]| ends_in(lines, aim.after) && refuses(lines, aim.record);
+    let (mut lines, upto) = valid::with_place(random, fits);
+    let mut line = stray(random, aim.record);
+    if random.one_in(4) {
+        spoil_field(random, &mut line);
+    }
+    lines.insert(upto, line);
+    join(&lines)
+}
+
+/// After these lines, is this record out of place? Of the pairs that depend
+/// on the item; the others of the table always are.
+fn refuses(lines: &[Line], record: &str) -> bool {
+    let code = lines.last().map_or(START.into(), |line| line.text(1, 5));
+    let kind = lines.iter().rev().find(|line| line.is("0100A")).map(|line| line.text(6, 4));
+    let kind = kind.as_deref().unwrap_or("");
+    let payment_lacks_name = matches!(kind, "0000" | "0003");
+    let run = lines.iter().rev().take_while(|line| line.is(&code)).count();
+    let referenced = ends_in(&lines[..lines.len() - run], "0150A");
+    match (code.as_str(), record) {
+        ("0020A", "0020A") => run == 4,
+        ("0160A", "0160A") => run + usize::from(referenced) == 4,
+        ("0100A", "0110B") => kind != "1002",
+        ("0100A", "0150A" | "0160A") => kind == "1002",
+        ("0100A", "0100A" | "9990A") => payment_lacks_name || kind == "1002",
+        ("0150A" | "0160A", "0100A" | "9990A") => payment_lacks_name,
+        ("0100A" | "0150A" | "0160A", "0170B") => !payment_lacks_name,
+        _ => true,
+    }
+}

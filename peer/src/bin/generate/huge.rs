@@ -1,0 +1,61 @@
+//! The few large files: the limits on items and on batches.
+
+use crate::line::{join, Line};
+use crate::plan::{file_of, Extras, Plan};
+use crate::random::Random;
+use crate::spoil::spoil_field;
+use crate::values::{any_account, ordinary_account, LARGEST_TOTAL};
+
+/// Which of them file `index` is: one in each of the first eight thousands.
+pub fn scenario(index: u64) -> Option<u64> {
+    (index % 1000 == 50 && index < 8000).then_some(index / 1000)
+}
+
+pub fn file(random: &mut Random, scenario: u64) -> Vec<u8> {
+    let debits = random.coin();
+    let name_lacks = if debits { b"1002" } else { b"0000" };
+    let mut lines = match scenario {
+        3 => many_batches(random, debits),
+        4 | 6 => many_items(random, debits, 100_000),
+        5 => many_items(random, debits, 99_999),
+        7 => over_the_total_too(random, debits),
+        _ => many_items(random, debits, 100_001),
+    };
+    let trailer = lines.len() - 2;
+    match scenario {
+        // Another fault on item 100,001 comes first.
+        1 => spoil_field(random, &mut lines[trailer - 1]),
+        // The item before it lacks its name.
+        2 => lines[trailer - 2].set(6, name_lacks),
+        // The trailer counts one more than there may be.
+        6 => lines[trailer].set(34, b"0100001"),
+        _ => {}
+    }
+    join(&lines)
+}
+
+fn many_batches(random: &mut Random, debits: bool) -> Vec<Line> {
+    let plans: Vec<Plan> = (0..9_999).map(|_| Plan::ordinary(random, 1)).collect();
+    file_of(random, debits, 1, &plans, Extras::None)
+}
+
+fn many_items(random: &mut Random, debits: bool, items: usize) -> Vec<Line> {
+    let cents = random.between(1, 40_000_000);
+    of_amounts(random, debits, vec![cents; items])
+}
+
+/// Item 100,001 is over the total too; its column comes second.
+fn over_the_total_too(random: &mut Random, debits: bool) -> Vec<Line> {
+    let mut amounts = vec![45_000_000; 100_001];
+    amounts[0] += LARGEST_TOTAL - 45_000_000 * 100_000;
+    of_amounts(random, debits, amounts)
+}
+
+fn of_amounts(random: &mut Random, debits: bool, amounts: Vec<u64>) -> Vec<Line> {
+    let usual = any_account(random);
+    let others = (0..amounts.len())
+        .map(|n| if n % 1000 == 0 { any_account(random) } else { usual })
+        .collect();
+    let plan = Plan { amounts, others, account: ordinary_account(random) };
+    file_of(random, debits, 1, &[plan], Extras::None)
+}

@@ -1,0 +1,227 @@
+//! The paper's record table with the answers that each field can give, and
+//! the order of records: every answer a file can meet. The generator aims at
+//! each and the coverage asks whether each was met. The reader doesn't use it.
+
+/// What stands in a field.
+#[derive(Clone, Copy, Debug, PartialEq, Eq)]
+pub enum Class {
+    Date,
+    FileName,
+    Text,
+    Identification,
+    Duplicate,
+    Filler,
+    Group,
+    OwnAccount,
+    Account,
+    Sequence,
+    Currency,
+    BatchIdentification,
+    NameCode,
+    OrderingName,
+    TestCode,
+    Type,
+    Amount,
+    City,
+    TotalAmount,
+    TotalAccounts,
+    Items,
+}
+
+/// One field of one record.
+#[derive(Clone, Copy, Debug, PartialEq, Eq)]
+pub struct Field {
+    pub code: &'static str,
+    pub column: usize,
+    pub width: usize,
+    pub class: Class,
+    pub answers: &'static [u8],
+}
+
+const fn field(
+    code: &'static str,
+    column: usize,
+    width: usize,
+    class: Class,
+    answers: &'static [u8],
+) -> Field {
+    Field { code, column, width, class, answers }
+}
+
+/// 4 is the form, which every field has; 5 stands where some value of a good
+/// form is wrong by itself. The rest is said with the field.
+pub const FIELDS: [Field; 45] = [
+    field("0001A", 6, 6, Class::Date, &[4, 5]),
+    field("0001A", 12, 8, Class::FileName, &[4, 5]),
+    field("0001A", 20, 5, Class::Text, &[4]),
+    // "another day is 7"
+    field("0001A", 25, 4, Class::Identification, &[4, 5, 7]),
+    field("0001A", 29, 1, Class::Duplicate, &[4, 5]),
+    field("0001A", 30, 21, Class::Filler, &[4]),
+    // 7: "the same throughout the file"
+    field("0010B", 6, 2, Class::Group, &[4, 5, 7]),
+    // 6: also "The ordering account is never a seven-digit one"
+    field("0010B", 8, 10, Class::OwnAccount, &[4, 5, 6]),
+    // 7: "the number before it plus one"
+    field("0010B", 18, 4, Class::Sequence, &[4, 5, 7]),
+    field("0010B", 22, 3, Class::Currency, &[4, 5]),
+    // "blank for variant B, filled for C"; against the rule is 4
+    field("0010B", 25, 16, Class::BatchIdentification, &[4]),
+    field("0010B", 41, 10, Class::Filler, &[4]),
+    field("0010C", 6, 2, Class::Group, &[4, 5, 7]),
+    field("0010C", 8, 10, Class::OwnAccount, &[4, 5, 6]),
+    field("0010C", 18, 4, Class::Sequence, &[4, 5, 7]),
+    field("0010C", 22, 3, Class::Currency, &[4, 5]),
+    field("0010C", 25, 16, Class::BatchIdentification, &[4]),
+    field("0010C", 41, 10, Class::Filler, &[4]),
+    field("0020A", 6, 32, Class::Text, &[4]),
+    field("0020A", 38, 13, Class::Filler, &[4]),
+    // 7: "and 1 in group 10"
+    field("0030B", 6, 1, Class::NameCode, &[4, 5, 7]),
+    // 5: zeros are taken here, but not a date outside the calendar
+    field("0030B", 7, 6, Class::Date, &[4, 5]),
+    field("0030B", 13, 35, Class::OrderingName, &[4]),
+    field("0030B", 48, 1, Class::TestCode, &[4, 5]),
+    field("0030B", 49, 2, Class::Filler, &[4]),
+    // "a type of the other group 7"
+    field("0100A", 6, 4, Class::Type, &[4, 5, 7]),
+    // its 8 is in LIMITS
+    field("0100A", 10, 12, Class::Amount, &[4, 5]),
+    // 7: "Payer (group 00) or beneficiary (group 10) equals the ordering account"
+    field("0100A", 22, 10, Class::Account, &[4, 5, 6, 7]),
+    field("0100A", 32, 10, Class::Account, &[4, 5, 6, 7]),
+    field("0100A", 42, 9, Class::Filler, &[4]),
+    field("0110B", 6, 35, Class::Text, &[4]),
+    field("0110B", 41, 10, Class::Filler, &[4]),
+    // 4: "anything from 32 to 126"
+    field("0113B", 6, 45, Class::City, &[4]),
+    field("0150A", 6, 16, Class::Text, &[4]),
+    field("0150A", 22, 29, Class::Filler, &[4]),
+    field("0160A", 6, 32, Class::Text, &[4]),
+    field("0160A", 38, 13, Class::Filler, &[4]),
+    field("0170B", 6, 35, Class::Text, &[4]),
+    field("0170B", 41, 10, Class::Filler, &[4]),
+    field("0173B", 6, 45, Class::City, &[4]),
+    // 5: zero, or "above the batch's maximum total"
+    field("9990A", 6, 18, Class::TotalAmount, &[4, 5, 9]),
+    // no 5: "total accounts may be zero", and ten digits are its maximum
+    field("9990A", 24, 10, Class::TotalAccounts, &[4, 9]),
+    // 5: zero, or "above 100,000 items"
+    field("9990A", 34, 7, Class::Items, &[4, 5, 9]),
+    field("9990A", 41, 10, Class::Filler, &[4]),
+    field("9999A", 6, 45, Class::Filler, &[4]),
+];
+
+/// Columns of an 8: "item 100,001, column 1; batch total above its maximum,
+/// column 10".
+const LIMITS: [usize; 2] = [1, 10];
+
+/// Every record with its variant.
+pub const CODES: [&str; 14] = [
+    "0001A", "0010B", "0010C", "0020A", "0030B", "0100A", "0110B", "0113B", "0150A", "0160A",
+    "0170B", "0173B", "9990A", "9999A",
+];
+
+/// The place before the first line.
+pub const START: &str = "start";
+
+/// After each record but the file trailer those that always fit, so that they
+/// are never 3 there. After the file trailer everything is 11.
+const ALWAYS_FIT: [(&str, &[&str]); 14] = [
+    (START, &["0001A"]),
+    ("0001A", &["0010B", "0010C"]),
+    ("0010B", &["0020A", "0030B"]),
+    ("0010C", &["0020A", "0030B"]),
+    // not 0020: there are "0 to 4"
+    ("0020A", &["0030B"]),
+    ("0030B", &["0100A"]),
+    // nothing: 0150 and 0160 come after a missing name in group 10, 0100 and
+    // 9990 in both
+    ("0100A", &[]),
+    ("0110B", &["0100A", "0113B", "0150A", "0160A", "9990A"]),
+    ("0113B", &["0100A", "0150A", "0160A", "9990A"]),
+    // in group 00 the name may be missing still, but it comes after 0160s
+    ("0150A", &["0160A"]),
+    // not 0160: "at most four 0160s, or three if it has a 0150"
+    ("0160A", &[]),
+    ("0170B", &["0100A", "0173B", "9990A"]),
+    ("0173B", &["0100A", "9990A"]),
+    ("9990A", &["0010B", "0010C", "9999A"]),
+];
+
+/// An answer where it is given. `after` is the record before the line, and
+/// only said for the answers that don't depend on fields.
+#[derive(Clone, Copy, Debug, PartialEq, Eq, PartialOrd, Ord)]
+pub struct Met {
+    pub answer: u8,
+    /// The code and variant of the line; of an unknown one its code alone,
+    /// or [`OTHER`]; no record with 0, 10 and 11; with 1 which half of its
+    /// rule, [`SHORT`] or [`UNENDED`].
+    pub record: &'static str,
+    pub column: usize,
+    pub after: &'static str,
+}
+
+pub const NONE: &str = "none";
+/// A code that no record has.
+pub const OTHER: &str = "other";
+/// Fewer than 52 bytes remain.
+pub const SHORT: &str = "short";
+/// No 13, 10 at 51 and 52.
+pub const UNENDED: &str = "unended";
+/// Any record, or after any record.
+pub const ANY: &str = "any";
+
+impl Met {
+    pub const fn new(answer: u8, record: &'static str, column: usize, after: &'static str) -> Self {
+        Self { answer, record, column, after }
+    }
+}
+
+/// Every answer that some file meets.
+pub fn reachable() -> Vec<Met> {
+    let mut all = vec![Met::new(0, NONE, 0, ANY), Met::new(11, NONE, 0, "9999A")];
+    all.extend(LIMITS.map(|column| Met::new(8, "0100A", column, ANY)));
+    for field in FIELDS {
+        all.extend(field.answers.iter().map(|&n| Met::new(n, field.code, field.column, ANY)));
+    }
+    all.extend(CODES.map(|code| Met::new(2, &code[..4], 1, ANY)));
+    all.push(Met::new(2, OTHER, 1, ANY));
+    for (after, fitting) in ALWAYS_FIT {
+        all.extend([SHORT, UNENDED].map(|record| Met::new(1, record, 0, after)));
+        all.push(Met::new(2, ANY, 1, after));
+        all.push(Met::new(10, NONE, 0, after));
+        let unfit = CODES.into_iter().filter(|code| !fitting.contains(code));
+        all.extend(unfit.map(|code| Met::new(3, code, 1, after)));
+    }
+    all.sort_unstable();
+    all.dedup();
+    all
+}
+
+#[cfg(test)]
+mod tests {
+    use super::*;
+
+    #[test]
+    fn the_widths_of_each_record_add_up() {
+        for code in CODES {
+            let mut next = 6;
+            for field in FIELDS.iter().filter(|field| field.code == code) {
+                assert_eq!(field.column, next, "{code}");
+                next += field.width;
+            }
+            assert_eq!(next, 51, "{code}");
+        }
+    }
+
+    #[test]
+    fn every_answer_is_there_once() {
+        let all = reachable();
+        let of = |answer| all.iter().filter(|met| met.answer == answer).count();
+        assert_eq!([0, 1, 2, 8, 10, 11].map(of), [1, 28, 28, 2, 14, 1]);
+        // 14 places and 14 records, less those that always fit.
+        assert_eq!(of(3), 14 * 14 - 27);
+        assert_eq!([4, 5, 6, 7, 9].map(of), [45, 21, 4, 9, 3]);
+    }
+}
