@@ -1,28 +1,16 @@
 //! The command itself: standard input, one file, several files.
 
+mod common;
+
 use std::io::Write;
 use std::path::PathBuf;
 use std::process::{Command, Output, Stdio};
 
-const EXAMPLE: [&str; 9] = [
-    "0001A150309CLIEOP03NACHT15011",
-    "0010B0001234567890001EUR",
-    "0020ASALARIS MAART",
-    "0030B1000000                                   P",
-    "0100A000800000015000001234567890111111110",
-    "0100A000300000000255001234567890000001234",
-    "0170BJ DE VRIES",
-    "9990A00000000000015255003580259220000002",
-    "9999A",
-];
+use common::{file, EXAMPLE};
 
 const ACCEPTED: &str = "answer=0\nline=9\ncolumn=0\n";
 /// Of the example cut after its seventh line.
 const LACKING: &str = "answer=10\nline=8\ncolumn=0\n";
-
-fn file(lines: &[&str]) -> Vec<u8> {
-    lines.iter().flat_map(|text| format!("{text:<50}\r\n").into_bytes()).collect()
-}
 
 /// A file with this content, and its name.
 fn stored(name: &str, content: &[u8]) -> String {
