@@ -2,6 +2,8 @@
 //! the order of records: every answer a file can meet. The generator aims at
 //! each and the coverage asks whether each was met. The reader doesn't use it.
 
+use std::fmt;
+
 /// What stands in a field.
 #[derive(Clone, Copy, Debug, PartialEq, Eq)]
 pub enum Class {
@@ -175,6 +177,13 @@ pub const ANY: &str = "any";
 impl Met {
     pub const fn new(answer: u8, record: &'static str, column: usize, after: &'static str) -> Self {
         Self { answer, record, column, after }
+    }
+}
+
+impl fmt::Display for Met {
+    fn fmt(&self, f: &mut fmt::Formatter) -> fmt::Result {
+        let Met { answer, record, column, after } = self;
+        write!(f, "answer={answer} record={record} column={column} after={after}")
     }
 }
 

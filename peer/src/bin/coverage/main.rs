@@ -1,10 +1,13 @@
 //! `coverage list FILE.. <ANSWERS` counts which answers of the table these
-//! files met, `coverage item FILE.. <ANSWERS` the same of items asked for;
-//! ANSWERS is what a program printed about the files, in their order.
-//! `coverage report <COUNTS` adds such counts up, prints them all, and fails if
-//! an answer of the table was met by no file, or one was met that isn't in it.
+//! files met, and which shapes the accepted ones have; `coverage item FILE..
+//! <ANSWERS` the answers of items asked for. ANSWERS is what a program printed
+//! about the files, in their order. `coverage report <COUNTS` adds such counts
+//! up, prints them all, and fails if an answer or shape was met by no file, or
+//! one was met that isn't known.
 
 #![forbid(unsafe_code)]
+
+mod shapes;
 
 use std::collections::BTreeMap;
 use std::io::{self, BufRead};
@@ -57,7 +60,7 @@ fn count(of_items: bool, names: &[String]) -> io::Result<()> {
     if answers.len() != names.len() {
         return Err(io::Error::other("not one answer for each file"));
     }
-    let mut counts: BTreeMap<Met, u64> = BTreeMap::new();
+    let mut counts: BTreeMap<String, u64> = BTreeMap::new();
     for (name, [number, line, column]) in names.iter().zip(answers) {
         let met = if of_items {
             met_by_item(number as u8)
@@ -66,25 +69,25 @@ fn count(of_items: bool, names: &[String]) -> io::Result<()> {
         };
         met.into_iter().for_each(|met| *counts.entry(met).or_default() += 1);
     }
-    for (Met { answer, record, column, after }, files) in counts {
-        println!("{answer} {record} {column} {after} {files}");
-    }
+    counts.iter().for_each(|(name, files)| println!("{name}: {files}"));
     Ok(())
 }
 
 /// The file's own refusal is counted with the file.
-fn met_by_item(answer: u8) -> Vec<Met> {
+fn met_by_item(answer: u8) -> Vec<String> {
     if matches!(answer, 0 | 13) {
-        vec![Met::new(answer, ITEM, 0, ANY)]
+        vec![Met::new(answer, ITEM, 0, ANY).to_string()]
     } else {
         vec![]
     }
 }
 
-fn met_by_file(file: &[u8], answer: u8, line: usize, column: usize) -> Vec<Met> {
-    let met = |record, after| Met::new(answer, record, column, after);
+fn met_by_file(file: &[u8], answer: u8, line: usize, column: usize) -> Vec<String> {
+    let met = |record, after| Met::new(answer, record, column, after).to_string();
     if answer == 0 {
-        return vec![met(NONE, ANY)];
+        let mut all: Vec<String> = shapes::of(file).into_iter().collect();
+        all.push(met(NONE, ANY));
+        return all;
     }
     let start = (line.max(1) - 1) * 52;
     let after = if start == 0 { START } else { record_of(file, start - 52) };
@@ -112,16 +115,12 @@ fn code_of(file: &[u8], start: usize) -> &'static str {
     known.into_iter().find(|code| here.starts_with(code.as_bytes())).unwrap_or(OTHER)
 }
 
-fn name_of(met: &Met) -> String {
-    format!("{} {} {} {}", met.answer, met.record, met.column, met.after)
-}
-
-/// Adds up counts of the same answer.
+/// Adds up counts under the same name.
 fn totals() -> io::Result<BTreeMap<String, u64>> {
     let mut totals = BTreeMap::new();
     for line in io::stdin().lock().lines() {
         let line = line?;
-        let (name, files) = line.rsplit_once(' ').unwrap_or((&line, ""));
+        let (name, files) = line.rsplit_once(": ").unwrap_or((&line, ""));
         let files: u64 = files.parse().map_err(io::Error::other)?;
         *totals.entry(name.to_string()).or_default() += files;
     }
@@ -130,24 +129,24 @@ fn totals() -> io::Result<BTreeMap<String, u64>> {
 
 fn report() -> io::Result<bool> {
     let mut totals = totals()?;
-    let mut table = reachable();
-    table.extend([0, 13].map(|answer| Met::new(answer, ITEM, 0, ANY)));
-    let rows: Vec<(String, u64)> = table
-        .iter()
-        .map(|met| {
-            let name = name_of(met);
-            let files = totals.remove(&name).unwrap_or(0);
-            (name, files)
-        })
-        .collect();
-    println!("answer record column after: files");
-    rows.iter().for_each(|(name, files)| println!("{name}: {files}"));
-    let lacking = rows.iter().filter(|(_, files)| *files == 0);
-    lacking.clone().for_each(|(name, _)| println!("coverage: no file met {name}"));
+    let mut answers: Vec<String> = reachable().iter().map(Met::to_string).collect();
+    answers.extend([0, 13].map(|answer| Met::new(answer, ITEM, 0, ANY).to_string()));
+    let all_answers = summary("answers", &answers, &mut totals);
+    let all_shapes = summary("shapes of accepted files", &shapes::all(), &mut totals);
     totals.keys().for_each(|name| println!("coverage: {name} was met and isn't in the table"));
-    let met = rows.len() - lacking.count();
-    let fewest = rows.iter().min_by_key(|(_, files)| *files);
-    let (name, files) = fewest.expect("the table isn't empty");
-    println!("coverage: {met} of {} answers met, the fewest {files} times ({name})", rows.len());
-    Ok(met == rows.len() && totals.is_empty())
+    Ok(all_answers && all_shapes && totals.is_empty())
+}
+
+/// Prints how many files met each of these, and takes them out of `totals`.
+/// Was each met?
+fn summary(what: &str, names: &[String], totals: &mut BTreeMap<String, u64>) -> bool {
+    let files: Vec<u64> = names.iter().map(|name| totals.remove(name).unwrap_or(0)).collect();
+    for (name, files) in names.iter().zip(&files) {
+        let mark = if *files == 0 { "coverage: no file has " } else { "" };
+        println!("{mark}{name}: {files}");
+    }
+    let met = files.iter().filter(|&&files| files > 0).count();
+    let fewest = files.iter().min().expect("there are some");
+    println!("coverage: {met} of {} {what} met, each by {fewest} files or more", names.len());
+    met == names.len()
 }
