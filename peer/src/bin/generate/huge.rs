@@ -15,10 +15,10 @@ pub fn file(random: &mut Random, scenario: u64) -> Vec<u8> {
     let debits = random.coin();
     let name_lacks = if debits { b"1002" } else { b"0000" };
     let mut lines = match scenario {
+        0 => over_the_total_too(random, debits),
         3 => many_batches(random, debits),
         4 | 6 => many_items(random, debits, 100_000),
         5 => many_items(random, debits, 99_999),
-        7 => over_the_total_too(random, debits),
         _ => many_items(random, debits, 100_001),
     };
     let trailer = lines.len() - 2;
