@@ -1,8 +1,8 @@
 // Prints item K of batch B of each file that its other arguments name, or of standard input: its fields and descriptions where there
 // is one, and the answer.
+use field::bytes::is_digits;
 use field::bytes::part;
 use field::numbers::Digits;
-use field::numbers::digits_at;
 use format::TransactionType;
 use format::TypeRead;
 use items::ItemFields;
@@ -195,17 +195,31 @@ fn seek_in_input(i: usize, several: bool, wanted: Search) {
     }
 }
 
-// The number that argument i is: of at most 18 digits.
-fn number(i: usize) -> Digits {
-    let mut text = [0u8; 18];
-    let n = os::arg(i, &mut text);
-    if n == 0 {
-        return Digits {
-            ok: false,
-            value: 0,
-        };
+// A number with one more digit. Beyond 17 digits it stays as large as it is: no file has so many batches or items.
+fn with_digit(value: u64, digit: u8) -> u64 {
+    if 99999999999999999 < value {
+        return value;
     }
-    digits_at(&text, 0, n)
+    if digit < 48 {
+        return value;
+    }
+    let units = digit - 48;
+    value * 10 + units as u64
+}
+
+// The number that argument i is, of any number of digits.
+fn number(i: usize) -> Digits {
+    let mut text = [0u8; 4096];
+    let n = os::arg(i, &mut text);
+    let digits = part(&text, 0, n);
+    let ok = (0 < digits.len()) & is_digits(digits);
+    let mut value: u64 = 0;
+    let mut k: usize = 0;
+    while k < digits.len() {
+        value = with_digit(value, digits[k]);
+        k += 1;
+    }
+    Digits { ok, value }
 }
 
 fn seek(batch: u64, item: u64) {
@@ -228,7 +242,7 @@ fn main() {
     } else {
         io::write_all(
             STDERR_FILENO,
-            b"usage: item B K [FILE..], where B and K are numbers of at most 18 digits\n",
+            b"usage: item B K [FILE..], where B and K are numbers\n",
         );
     }
 }
