@@ -9,6 +9,7 @@ use items::ItemFields;
 use items::ItemRead;
 use items::Search;
 use libc::STDERR_FILENO;
+use libc::STDOUT_FILENO;
 use page::put_answer;
 use page::put_input;
 use page::put_line;
@@ -153,7 +154,7 @@ fn print_found(found: ItemRead, texts: &[u8], name: &[u8], several: bool) {
     let a = put_input(&mut page, name, several);
     let b = put_item(&mut page, a, fields, texts);
     let c = put_answer(&mut page, b, found.answer, found.line, found.column);
-    streams::print(part(&page, 0, c));
+    streams::told(io::write_all(STDOUT_FILENO, part(&page, 0, c)));
 }
 
 fn start(search: Search) -> Sought {

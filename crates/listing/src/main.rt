@@ -1,6 +1,7 @@
 // Prints the listing of each file that its arguments name, or of standard input: its header, each closed batch, and the answer.
 use field::bytes::part;
 use format::Group;
+use libc::STDOUT_FILENO;
 use page::put_answer;
 use page::put_input;
 use page::put_line;
@@ -75,7 +76,7 @@ fn put_record(page: &mut [u8], at: usize, state: State, read: Record, sender: &[
 fn make_room(page: &[u8], at: usize) -> usize {
     if at <= page.len() {
         if page.len() - at < 512 {
-            streams::print(part(page, 0, at));
+            streams::told(io::write_all(STDOUT_FILENO, part(page, 0, at)));
             return 0;
         }
     }
@@ -174,7 +175,7 @@ fn list_file(fd: i32, name: &[u8], several: bool, page: &mut [u8]) {
     }
     let end = ended(read, page);
     let at = put_end(end, page);
-    streams::print(part(page, 0, at));
+    streams::told(io::write_all(STDOUT_FILENO, part(page, 0, at)));
 }
 
 // The file of argument i, or standard input.

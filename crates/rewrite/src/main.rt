@@ -2,6 +2,7 @@
 // city records. Of a refused file the lines before the refused one are written, and the answer goes to standard error.
 use field::bytes::part;
 use libc::STDERR_FILENO;
+use libc::STDOUT_FILENO;
 use page::put_answer;
 use page::put_input;
 use reading::State;
@@ -141,7 +142,7 @@ fn copy_some(before: Copied, fd: i32, name: &[u8], page: &mut [u8]) -> Copied {
     let filled = streams::fill(fd, name, &mut buffer);
     let n = filled.count;
     let mut copied = copy_lines(before, &buffer[..n], page);
-    let printed = streams::print(part(page, 0, copied.at));
+    let printed = streams::told(io::write_all(STDOUT_FILENO, part(page, 0, copied.at)));
     copied.at = 0;
     copied.more = (n == 65520) & (copied.answer == 0) & printed;
     copied.failed = filled.failed | !printed;

@@ -1,10 +1,10 @@
 // What the programs read and write: the files that their arguments name, standard input and standard output. What cannot be
 // opened, read or written is told on standard error, in one line. No contract can say which bytes C reads or writes.
+ghost use mathlib.Core.Path.{_≡_};
 ghost use Prim.Native.Nat.{_+_, _≤_};
 ghost use lib.ListN.{length};
 ghost use Rattle.io.specs.Counts.{Counts};
 use libc::STDIN_FILENO;
-use libc::STDOUT_FILENO;
 
 // An input: its descriptor, which is negative where it cannot be opened, and how long its name is.
 pub struct Input {
@@ -90,12 +90,12 @@ pub fn fill(fd: i32, name: &[u8], buffer: &mut [u8]) -> Filled
     }
 }
 
-// Writes to standard output, and answers whether it could.
-pub fn print(bytes: &[u8]) -> bool {
-    let written = io::write_all(STDOUT_FILENO, bytes);
-    if written {
-        return true;
+// Whether standard output was written, told on standard error where it was not.
+pub fn told(written: bool) -> bool
+    ensures { λ r. ⌜ r ≡ written ⌝ }
+{
+    if !written {
+        os::fail(b"standard output");
     }
-    os::fail(b"standard output");
-    false
+    written
 }
