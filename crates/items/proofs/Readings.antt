@@ -22,6 +22,14 @@ use Rattle.items.specs.declared.Search.{Search}
 use Rattle.items.proofs.Searching.{opened-on}
 use Rattle.items.proofs.Recorded.{afterRecs}
 
+-- a city changes nothing
+city-off : (s : Search) (g : Group) (o : Option (List ℕ)) (k : List Rec) → afterRecs s (cityRecs g o k) ≡ afterRecs s k
+unfolding afterRecs
+city-off s Payments none k = refl
+city-off s Payments (some t) k = refl
+city-off s Debits none k = refl
+city-off s Debits (some t) k = refl
+
 -- ## Where the wanted item is not open
 
 module _ (b n : ℕ) (w : Bool) (f : Found) where
@@ -38,28 +46,20 @@ module _ (b n : ℕ) (w : Bool) (f : Found) where
   descriptions-off [] k = refl
   descriptions-off (t ∷ ts) k = descriptions-off ts k
 
-city-off : (s : Search) (g : Group) (o : Option (List ℕ)) (k : List Rec) → afterRecs s (cityRecs g o k) ≡ afterRecs s k
-unfolding afterRecs
-city-off s Payments none k = refl
-city-off s Payments (some t) k = refl
-city-off s Debits none k = refl
-city-off s Debits (some t) k = refl
-
-module _ (b n : ℕ) (w : Bool) (f : Found) where
-  name-off : (g : Group) (o : Option Name) (k : List Rec) → afterRecs (passing b n w f) (nameRecs g o k) ≡ afterRecs (passing b n w f) k
+  name-off : (g : Group) (o : Option Name) (k : List Rec) → afterRecs passing (nameRecs g o k) ≡ afterRecs passing k
   unfolding afterRecs named pick
   name-off Payments none k = refl
-  name-off Payments (some m) k = city-off (passing b n w f) Payments (m .city) k
+  name-off Payments (some m) k = city-off passing Payments (m .city) k
   name-off Debits none k = refl
-  name-off Debits (some m) k = city-off (passing b n w f) Debits (m .city) k
+  name-off Debits (some m) k = city-off passing Debits (m .city) k
 
-  item-off : (g : Group) (i : Item) (k : List Rec) → afterRecs (passing b n w f) (itemRecs g i k) ≡ afterRecs (passing b n w f) k
+  item-off : (g : Group) (i : Item) (k : List Rec) → afterRecs passing (itemRecs g i k) ≡ afterRecs passing k
   item-off Payments i k =
-      reference-off b n w f (i .reference) (descriptionRecs (i .descriptions) (nameRecs Payments (i .name) k))
-      ∙ descriptions-off b n w f (i .descriptions) (nameRecs Payments (i .name) k) ∙ name-off Payments (i .name) k
+      reference-off (i .reference) (descriptionRecs (i .descriptions) (nameRecs Payments (i .name) k))
+      ∙ descriptions-off (i .descriptions) (nameRecs Payments (i .name) k) ∙ name-off Payments (i .name) k
   item-off Debits i k =
       name-off Debits (i .name) (referenceRecs (i .reference) (descriptionRecs (i .descriptions) k))
-      ∙ reference-off b n w f (i .reference) (descriptionRecs (i .descriptions) k) ∙ descriptions-off b n w f (i .descriptions) k
+      ∙ reference-off (i .reference) (descriptionRecs (i .descriptions) k) ∙ descriptions-off (i .descriptions) k
 
 -- ## Where the wanted batch is not open
 
