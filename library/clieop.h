@@ -20,6 +20,13 @@ extern "C" {
 /* place: line, column. An accepted file's line is its number of lines. */
 uint8_t clieop_check(const uint8_t *file, size_t length, uint64_t *place, size_t places);
 
+/* Item number `item` of batch number `batch`, both counted from 1.
+ * place: line, column, type (0, 3, 5, 8, 1001 or 1002), amount in cents, payer, beneficiary; these last four are 0 unless 0 is returned.
+ * texts: four descriptions of 32 characters, the reference in 16, the first 24 characters of the name; what there is none of is spaces.
+ * They are 168 bytes, untouched unless 0 is returned. Where `room` is smaller, 12 is returned where nothing else applies. */
+uint8_t clieop_item(const uint8_t *file, size_t length, uint64_t batch, uint64_t item, uint8_t *texts, size_t room,
+                    uint64_t *place, size_t places);
+
 /* The file written again without its city records into out, which is untouched unless 0 is returned.
  * place: line, column, number of bytes written. */
 uint8_t clieop_rewrite(const uint8_t *file, size_t length, uint8_t *out, size_t room, uint64_t *place, size_t places);

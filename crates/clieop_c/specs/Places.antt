@@ -1,15 +1,23 @@
 -- What the functions for other languages return, and what they leave in the numbers and bytes lent to them.
-use Prim.Native.Nat.{ℕ}
-use mathlib.Core.List.{List, [], _∷_}
+use Prim.Native.Nat.{ℕ, _≤_}
+use mathlib.Core.List.{List, _∷_, _++_}
 use mathlib.Core.Bool.{Bool, false}
-use lib.ListN.{length, drop}
+use lib.ListN.{length, take, drop}
 use lib.Dec.{leb, eqb}
 use Rattle.machine.specs.Lists.{pick}
+use Rattle.machine.specs.Digits.{valueOf}
 use Rattle.format.specs.Answers.{accepted, noRoom}
+use Rattle.format.specs.Rules.{typeText}
+use Rattle.format.specs.declared.TransactionType.{TransactionType}
+use Rattle.format.specs.declared.TypeRead.{TypeRead}
+use Rattle.format.specs.declared.TypeRead.the-variants.{Of, NoType}
 use Rattle.reading.specs.Check.{checkOf}
 use Rattle.reading.specs.declared.Answer.{Answer}
 use Rattle.rewriting.specs.Rewriting.{rewrittenOf, roomAfter}
 use Rattle.rewriting.specs.declared.Rewritten.{Rewritten}
+use Rattle.items.specs.Answering.{itemOf, roomAfter as descriptionsAfter}
+use Rattle.items.specs.Promises.{Promised}
+use Rattle.items.specs.declared.ItemRead.{ItemRead}
 
 -- '12 comes last and only where nothing else applies'
 unfoldable pub numberFor : ℕ → Bool → ℕ
@@ -33,3 +41,39 @@ rewritePlace r place = pick (leb 3 (length place)) (r .line ∷ r .column ∷ r 
 
 unfoldable pub rewriteRoom : List ℕ → List ℕ → ℕ → List ℕ
 rewriteRoom file out places = pick (leb 3 places) (roomAfter file out) out
+
+-- ## An item
+
+-- a type as a number; 'numbers are zero' where there is none
+unfoldable pub numberOf : TransactionType → ℕ
+numberOf t = valueOf (typeText t)
+
+abbrev pub typeNumber : TypeRead → ℕ
+typeNumber (Of t) = numberOf t
+typeNumber NoType = 0
+
+-- the answer to one who asks for an item; with room for its texts or its numbers lacking, that of one who has no room at all
+unfoldable pub itemAsked : List ℕ → ℕ → ℕ → ℕ → ℕ → ItemRead
+itemAsked file batch item room places = itemOf file batch item (pick (leb 6 places) (pick (leb 168 room) room 0) 0)
+
+abbrev numbersOf : ItemRead → List ℕ → List ℕ
+numbersOf r rest = r .line ∷ r .column ∷ typeNumber (r .fields .kind) ∷ r .fields .amount ∷ r .fields .payer ∷ r .fields .beneficiary ∷ rest
+
+unfoldable pub itemPlace : ItemRead → List ℕ → List ℕ
+itemPlace r place = pick (leb 6 (length place)) (numbersOf r (drop 6 place)) place
+
+-- the reference and the name behind the 128 bytes of the descriptions
+unfoldable pub textsWith : List ℕ → List ℕ → List ℕ → List ℕ
+textsWith reference name texts = take 128 texts ++ reference ++ name ++ drop 168 texts
+
+abbrev pub textsBy : ItemRead → List ℕ → List ℕ → List ℕ
+textsBy r texts described = pick (eqb (r .answer) accepted) (textsWith (r .fields .reference) (r .fields .name) described) texts
+
+-- 'A refusal .. leaves .. buffer untouched'
+unfoldable pub itemTexts : List ℕ → ℕ → ℕ → List ℕ → ℕ → List ℕ
+itemTexts file batch item texts places = textsBy (itemAsked file batch item (length texts) places) texts (descriptionsAfter file batch item texts)
+
+-- with room for everything: what `items::item` promises, with the first 128 bytes as its room
+abbrev pub ItemPromised : List ℕ → ℕ → ℕ → List ℕ → ℕ → List ℕ → Type 0
+ItemPromised file batch item texts places after =
+    6 ≤ places → 168 ≤ length texts → Promised file batch item (take 128 texts) (itemAsked file batch item (length texts) places) (take 128 after)

@@ -13,6 +13,10 @@ ghost use Rattle.clieop_c.specs.Places.{numberFor, checkNumber, checkPla
 use reading::Answer;
 use rewriting::Rewritten;
 
+mod item;
+
+pub use item::clieop_item;
+
 // The number of an answer, with room for what comes with it or without.
 fn number_for(number: u8, room: bool) -> u8
     ensures { λ r. ⌜ r ≡ numberFor number room ⌝ }

@@ -7,6 +7,16 @@
 mod c {
     extern "C" {
         pub fn clieop_check(file: *const u8, length: usize, place: *mut u64, places: usize) -> u8;
+        pub fn clieop_item(
+            file: *const u8,
+            length: usize,
+            batch: u64,
+            item: u64,
+            texts: *mut u8,
+            room: usize,
+            place: *mut u64,
+            places: usize,
+        ) -> u8;
         pub fn clieop_rewrite(
             file: *const u8,
             length: usize,
@@ -32,6 +42,19 @@ impl Answer {
     }
 }
 
+/// An item of a file: its type as a number, its amount in cents, its accounts
+/// and its texts, with spaces where there are none.
+#[derive(Clone, Copy, Debug, PartialEq, Eq)]
+pub struct Item {
+    pub kind: u64,
+    pub amount: u64,
+    pub payer: u64,
+    pub beneficiary: u64,
+    pub reference: [u8; 16],
+    pub name: [u8; 24],
+    pub descriptions: [[u8; 32]; 4],
+}
+
 /// The answer of a whole file; an accepted one's line is its number of lines.
 pub fn check(file: &[u8]) -> Answer {
     let mut place = [0; 2];
@@ -39,6 +62,42 @@ pub fn check(file: &[u8]) -> Answer {
         c::clieop_check(file.as_ptr(), file.len(), place.as_mut_ptr(), place.len())
     };
     Answer { number, line: place[0], column: place[1] }
+}
+
+/// Item number `item` of batch number `batch`, both counted from 1.
+pub fn item(file: &[u8], batch: u64, item: u64) -> Result<Item, Answer> {
+    let mut texts = [0; 168];
+    let mut place = [0; 6];
+    let number = unsafe {
+        c::clieop_item(
+            file.as_ptr(),
+            file.len(),
+            batch,
+            item,
+            texts.as_mut_ptr(),
+            texts.len(),
+            place.as_mut_ptr(),
+            place.len(),
+        )
+    };
+    let [line, column, kind, amount, payer, beneficiary] = place;
+    match number {
+        0 => Ok(Item {
+            kind,
+            amount,
+            payer,
+            beneficiary,
+            reference: text(&texts, 128),
+            name: text(&texts, 144),
+            descriptions: [0, 32, 64, 96].map(|at| text(&texts, at)),
+        }),
+        _ => Err(Answer { number, line, column }),
+    }
+}
+
+/// The text of N characters that begins at a byte of an item's texts.
+fn text<const N: usize>(texts: &[u8; 168], at: usize) -> [u8; N] {
+    std::array::from_fn(|i| texts[at + i])
 }
 
 /// The file written again without its city records, to the front of `out`:

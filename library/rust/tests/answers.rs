@@ -1,6 +1,6 @@
 //! Answers of document 01, asked through the library.
 
-use clieop::{check, rewrite, Answer};
+use clieop::{check, item, rewrite, Answer, Item};
 
 /// Lines filled to 50 with spaces, each with its line end.
 fn file(lines: &[&str]) -> Vec<u8> {
@@ -25,6 +25,11 @@ fn example() -> Vec<u8> {
 
 fn answer(number: u8, line: u64, column: u64) -> Answer {
     Answer { number, line, column }
+}
+
+/// A text filled with spaces to its width.
+fn filled<const N: usize>(text: &str) -> [u8; N] {
+    format!("{text:N$}").into_bytes().try_into().unwrap()
 }
 
 #[test]
@@ -79,4 +84,60 @@ fn without_room_it_is_12_and_nothing_is_written() {
 #[test]
 fn the_files_own_refusal_comes_before_12() {
     assert_eq!(rewrite(&example()[..52], &mut []), Err(answer(10, 2, 0)));
+}
+
+#[test]
+fn the_items_of_the_example_are_handed_out() {
+    let first = Item {
+        kind: 8,
+        amount: 150000,
+        payer: 123456789,
+        beneficiary: 111111110,
+        reference: filled(""),
+        name: filled(""),
+        descriptions: ["SALARIS MAART", "", "", ""].map(filled),
+    };
+    let second = Item {
+        kind: 3,
+        amount: 2550,
+        beneficiary: 1234,
+        name: filled("J DE VRIES"),
+        ..first
+    };
+    assert_eq!(item(&example(), 1, 1), Ok(first));
+    assert_eq!(item(&example(), 1, 2), Ok(second));
+}
+
+#[test]
+fn no_such_batch_or_item_is_13_with_the_number_of_lines() {
+    for (batch, number) in [(0, 1), (1, 0), (1, 3), (2, 1), (u64::MAX, u64::MAX)] {
+        assert_eq!(item(&example(), batch, number), Err(answer(13, 9, 0)));
+    }
+}
+
+#[test]
+fn the_files_own_refusal_comes_before_13() {
+    assert_eq!(item(&example()[..8 * 52], 2, 1), Err(answer(10, 9, 0)));
+    assert_eq!(item(&example()[..2 * 52 + 30], 1, 1), Err(answer(1, 3, 0)));
+}
+
+/// Case 8 of 01: two fixed and three own descriptions, with a reference.
+#[test]
+fn with_a_reference_three_descriptions_are_handed_out() {
+    let bytes = example();
+    let fixed = file(&["0020ATWEEDE"]);
+    let own = file(&["0150AKENMERK 12345678", "0160AEERSTE EIGEN", "0160ATWEEDE EIGEN", "0160ADERDE EIGEN"]);
+    let more = [&bytes[..3 * 52], &fixed, &bytes[3 * 52..5 * 52], &own, &bytes[5 * 52..]].concat();
+    let handed = item(&more, 1, 1).unwrap();
+    assert_eq!(handed.reference, *b"KENMERK 12345678");
+    assert_eq!(handed.descriptions, ["SALARIS MAART", "TWEEDE", "EERSTE EIGEN", ""].map(filled));
+    assert_eq!(item(&more, 1, 2).unwrap().descriptions, ["SALARIS MAART", "TWEEDE", "", ""].map(filled));
+}
+
+#[test]
+fn of_a_name_the_first_24_characters_are_handed_out() {
+    let bytes = example();
+    let name = file(&["0170BABCDEFGHIJKLMNOPQRSTUVWXYZ123456789"]);
+    let named = [&bytes[..6 * 52], &name, &bytes[7 * 52..]].concat();
+    assert_eq!(item(&named, 1, 2).unwrap().name, *b"ABCDEFGHIJKLMNOPQRSTUVWX");
 }

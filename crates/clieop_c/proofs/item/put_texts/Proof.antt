@@ -1,0 +1,16 @@
+use borrow.Author.Needs.{needs}
+use Rattle.clieop_c.proofs.Handing.{texts}
+use Rattle.clieop_c.proofs.item.put_texts.Statement.{statement}
+use Rattle.clieop_c.proofs.item.put_texts.Tie as tie
+
+pub put-texts-spec : {M : Type 1} → statement M
+put-texts-spec =
+    tie.close
+    (tie.spec
+    (λ c. search needs)  -- slice-aggregate-put-text
+    (λ c κs. search needs)  -- put-text-requires
+    (λ c. search needs)  -- slice-aggregate-put-text-2
+    (λ c κs. search needs)  -- put-text-requires-2
+    (λ c. search needs)  -- same-length
+    (λ c. search texts depth 20 fits 10000)  -- returns
+    )
