@@ -5,3 +5,5 @@ pub mod Forms
 pub mod Days
 pub mod Elevens
 pub mod Rows
+pub mod Putting
+pub mod Spelling

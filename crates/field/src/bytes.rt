@@ -1,7 +1,8 @@
 // Bytes of a slice. No loop ends early, so that the compiler can take many bytes at a time.
 ghost use mathlib.Core.Path.{_≡_};
-ghost use lib.ListN.{take, drop};
-ghost use Rattle.machine.specs.Lists.{all, same, isDigit, isSpace};
+ghost use Prim.Native.Nat.{_+_, _≤_};
+ghost use lib.ListN.{length, take, drop};
+ghost use Rattle.machine.specs.Lists.{all, same, placed, putIn, isDigit, isSpace};
 ghost use Rattle.format.specs.Fields.{printable, leftJustified};
 
 // The part from at, of that width or as much as there is.
@@ -92,4 +93,26 @@ pub(crate) fn is_left_justified(s: &[u8]) -> bool
         return false;
     }
     s[0] != 32
+}
+
+fn copy(text: &[u8], at: usize, room: &mut [u8])
+    requires { ⌜ at + length (now text) ≤ length (now room) ⌝ }
+    ensures { λ _. ⌜ now (room .exit) ≡ placed (now (room .entry)) at (now (text .entry)) ⌝ }
+{
+    let mut i: usize = 0;
+    while i < text.len() {
+        room[at + i] = text[i];
+        i += 1;
+    }
+}
+
+// A text at a place of a room. Where it does not fit, the room stays as it was.
+pub fn put(text: &[u8], at: usize, room: &mut [u8])
+    ensures { λ _. ⌜ now (room .exit) ≡ putIn (now (room .entry)) at (now (text .entry)) ⌝ }
+{
+    if at <= room.len() {
+        if text.len() <= room.len() - at {
+            copy(text, at, room);
+        }
+    }
 }

@@ -1,10 +1,10 @@
 // Numeric fields.
 ghost use mathlib.Core.Path.{_≡_};
 ghost use mathlib.Core.Bool.{true};
-ghost use Prim.Native.Nat.{_≤_};
+ghost use Prim.Native.Nat.{_+_, _≤_, _<_};
 ghost use lib.ListN.{length, take, drop};
 ghost use Rattle.machine.specs.Lists.{all, isDigit};
-ghost use Rattle.machine.specs.Digits.{valueOf};
+ghost use Rattle.machine.specs.Digits.{decimal, valueOf};
 ghost use Rattle.field.specs.Leaf.{digitsOf, wrongNo, rightOf, numericNo, numericOf, rangedBy, rangeTests, totalTests, equalTests};
 use crate::bytes::is_digits;
 use crate::bytes::part;
@@ -39,6 +39,28 @@ fn value(s: &[u8]) -> u64
         i += 1;
     }
     v
+}
+
+fn digit(d: u64) -> u8
+    requires { ⌜ d < 10 ⌝ }
+    ensures { λ r. ⌜ r ≡ 48 + d ⌝ }
+{
+    48 + d as u8
+}
+
+// A number in the twenty digits that every number fits.
+pub fn digits_of(n: u64) -> [u8; 20]
+    ensures { λ r. ⌜ r ≡ decimal 20 n ⌝ }
+{
+    let mut digits = [48u8; 20];
+    let mut rest = n;
+    let mut i: usize = 20;
+    while 0 < i {
+        i -= 1;
+        digits[i] = digit(rest % 10);
+        rest = rest / 10;
+    }
+    digits
 }
 
 // At most 18 digits.

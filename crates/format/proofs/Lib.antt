@@ -7,3 +7,4 @@ pub mod Complete
 pub mod Live
 pub mod One
 pub mod Theorem
+pub mod ByRows

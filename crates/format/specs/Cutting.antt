@@ -1,8 +1,8 @@
 -- The lines of a file: 50 characters and then the end.
 use mathlib.Core.Bool.{Bool}
-use mathlib.Core.List.{List}
-use Prim.Native.Nat.{ℕ, _+_}
-use lib.ListN.{length, drop}
+use mathlib.Core.List.{List, [], _∷_}
+use Prim.Native.Nat.{ℕ, zero, suc, _+_}
+use lib.ListN.{length, take, drop}
 use Rattle.machine.specs.Lists.{same}
 use Rattle.machine.specs.Lines.{Cut, blockCut, front, Exactly}
 use Rattle.format.specs.Language.{crlf, endBytes}
@@ -32,3 +32,12 @@ firstLines n b = front cut turn unfixed n b
 
 abbrev pub AreLines : ℕ → List ℕ → Type 0
 AreLines n b = Exactly cut turn unfixed n b
+
+-- the bytes by 52, whatever they are, of which the last may be fewer; k bytes are still to be passed
+unfoldable pub rowsFrom : ℕ → List ℕ → List (List ℕ)
+rowsFrom k [] = []
+rowsFrom (suc k) (x ∷ xs) = rowsFrom k xs
+rowsFrom zero (x ∷ xs) = take 52 (x ∷ xs) ∷ rowsFrom 51 xs
+
+abbrev pub rows : List ℕ → List (List ℕ)
+rows xs = rowsFrom 0 xs

@@ -3,7 +3,8 @@ use mathlib.Core.Path.{_≡_, refl, sym, ap, ap₂, _∙_}
 use mathlib.Core.List.{List, [], _∷_, _++_, append-nil}
 use Prim.Native.Nat.{ℕ, zero, suc, _+_, _*_, _-_, _/_, _%_, _<_}
 use native.Mathlib.Omega.{arith}
-use lib.ListN.{length}
+use lib.ListN.{length, drop}
+use lib.Seq.{drop-at}
 use lib.Dec.{T, leb, leb→le, le→leb, eqb→eq}
 use Rattle.machine.specs.Lists.{all, isDigit, isSpace, spaces}
 use Rattle.machine.specs.Digits.{pow10, digitsOnto, decimal, valueAfter, valueOf}
@@ -57,6 +58,19 @@ value-decimal w n h = value-digits w n [] h
 pub decimal-value : (w : ℕ) (l : List ℕ) → length l ≡ w → T (all isDigit l) → l ≡ decimal w (valueOf l)
 unfolding decimal digitsOnto
 decimal-value w l h t = sym (digits-read l 0 0 w [] t (omega arith) ∙ append-nil l)
+
+digits-last : (a w m n : ℕ) (k : List ℕ) → m ≡ w + a → drop a (digitsOnto m n k) ≡ digitsOnto w n k
+unfolding digitsOnto
+digits-last a zero m n k h =
+    let q : m ≡ a = omega arith in
+    ap (λ x. drop a (digitsOnto x n k)) q ∙ ap (drop a) (digits-append a n [] k) ∙ drop-at (digitsOnto a n []) k a (digits-length a n [] ∙ omega arith)
+digits-last a (suc w) zero n k h = absurd (omega arith)
+digits-last a (suc w) (suc m) n k h = digits-last a w m (n / 10) ((48 + n % 10) ∷ k) (omega arith)
+
+-- the last digits of a number are those of fewer
+pub decimal-last : (a w m n : ℕ) → m ≡ w + a → drop a (decimal m n) ≡ decimal w n
+unfolding decimal
+decimal-last a w m n h = digits-last a w m n [] h
 
 pub blank : (n : ℕ) (l : List ℕ) → length l ≡ n → T (all isSpace l) → l ≡ spaces n
 blank zero [] h t = refl

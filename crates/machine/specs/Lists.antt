@@ -1,8 +1,8 @@
 -- Bytes in lists.
 use mathlib.Core.Bool.{Bool, true, false, _&&_}
-use mathlib.Core.List.{List, [], _∷_}
-use Prim.Native.Nat.{ℕ}
-use lib.ListN.{replicate}
+use mathlib.Core.List.{List, [], _∷_, _++_}
+use Prim.Native.Nat.{ℕ, _+_}
+use lib.ListN.{length, take, drop, replicate}
 use lib.Dec.{leb, eqb}
 
 -- one of two, by a test
@@ -33,3 +33,11 @@ spaces n = replicate n 32
 
 abbrev pub inRange : ℕ → ℕ → ℕ → Bool
 inRange low high n = leb low n && leb n high
+
+-- a text at a place of a room, and the other bytes as they were
+unfoldable pub placed : List ℕ → ℕ → List ℕ → List ℕ
+placed room at text = (take at room ++ text) ++ drop (at + length text) room
+
+-- where it fits
+unfoldable pub putIn : List ℕ → ℕ → List ℕ → List ℕ
+putIn room at text = pick (leb (at + length text) (length room)) (placed room at text) room

@@ -1,3 +1,4 @@
 pub mod Typing
 pub mod Reading
 pub mod Faulting
+pub mod Coding

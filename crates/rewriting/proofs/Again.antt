@@ -27,6 +27,7 @@ use Rattle.reading.specs.declared.LineRead.{LineRead}
 use Rattle.reading.specs.declared.Answer.{Answer}
 use Rattle.reading.proofs.Running.{first-52}
 use Rattle.reading.proofs.Running as running
+use Rattle.reading.proofs.Verdicts.{Taken, takes}
 use Rattle.writer.specs.Entries.{lineFor}
 use Rattle.writer.specs.Writing.{answered, writtenOf}
 use Rattle.writer.specs.Promises.{entryOf}
@@ -38,7 +39,7 @@ use Rattle.theorem.proofs.Meaning.{means}
 use Rattle.rewriting.specs.Cities.{isCity, keptLine, keptFrom, withoutCities}
 use Rattle.rewriting.specs.Promises.{noCityFrom, Rewrites, ended, city, written, Again, Promised}
 use Rattle.rewriting.specs.declared.Rewritten.{Rewritten}
-use Rattle.rewriting.proofs.Behind.{isCityKind, Behind, alike, within-behind, Taken, takes, taken-too, behind-too, behind-city, city-kind}
+use Rattle.rewriting.proofs.Behind.{isCityKind, Behind, alike, within-behind, taken-too, behind-too, behind-city, city-kind}
 
 -- ## A line kept or not
 

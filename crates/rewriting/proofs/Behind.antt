@@ -20,6 +20,7 @@ use Rattle.format.specs.declared.Code.the-variants.{Of}
 use Rattle.record.specs.Kinds.{codeOf}
 use Rattle.record.specs.Faults.{fieldsOf, faultOf}
 use Rattle.record.specs.Read.{transactionFor}
+use Rattle.record.proofs.Coding.{code-is}
 use Rattle.reading.specs.State.{isKept, within}
 use Rattle.reading.specs.Order.{isStage, isName, mayEnd, mayPay, mayName, textsBy, mayText, mayRefer, roomFor, mayDescribe, allowed}
 use Rattle.reading.specs.Step.{nameIf, afterText, nextFor, refused, taken, judgedAs, judgedKind, judgedLine, isWhole, isDone, judgedFirst}
@@ -29,8 +30,7 @@ use Rattle.reading.specs.declared.Name.the-variants.{Unwanted, Due, Read, Past}
 use Rattle.reading.specs.declared.State.{State}
 use Rattle.reading.specs.declared.Judged.{Judged}
 use Rattle.reading.proofs.Limits.{within-line}
-use Rattle.reading.proofs.Verdicts.{First, beyond, halted, moved, first}
-use Rattle.writer.proofs.Accepting.{code-is}
+use Rattle.reading.proofs.Verdicts.{Taken}
 use Rattle.rewriting.specs.Cities.{isCity}
 
 -- ## Cities
@@ -185,35 +185,7 @@ city-behind s l n h e CityBeneficiary c a x =
 city-behind s l n h e BatchTrailer c a x = absurd (true≢false (sym c))
 city-behind s l n h e FileTrailer c a x = absurd (true≢false (sym c))
 
--- ## A line taken
-
-pub record Taken (s : State) (xs : List ℕ) : Type 0 where
-  pub limits : within s ≡ true
-  pub unended : isDone s ≡ false
-  pub whole : isWhole xs ≡ true
-  pub kind : Kind
-  pub coded : codeOf (take 5 (take 50 xs)) ≡ Of kind
-  pub placed : allowed s kind ≡ true
-  pub faultless : faultOf (s .said) (s .group) (s .batch) kind (take 50 xs) .number ≡ 0
-  pub is : judgedFirst s xs ≡ taken kind (nextFor s kind (fieldsOf kind (take 50 xs)))
-
-parts : (s : State) (xs : List ℕ) → judgedFirst s xs .number ≡ 0 → (isDone s ≡ false) × (isWhole xs ≡ true)
-unfolding judgedFirst pick
-parts s xs z = on (within s) (isDone s) (isWhole xs) z
-  where
-    on : (a b c : Bool) → pick a (pick b (refused s 0 11) (pick c (judgedLine s (take 50 xs)) (refused s 0 1))) (refused s 0 24) .number ≡ 0 → (b ≡ false) × (c ≡ true)
-    on true true c z = absurd (omega arith)
-    on true false true z = (refl, refl)
-    on true false false z = absurd (omega arith)
-    on false b c z = absurd (omega arith)
-
-of-first : (s : State) (xs : List ℕ) (j : Judged) → First s xs j → judgedFirst s xs ≡ j → (isDone s ≡ false) × (isWhole xs ≡ true) → j .number ≡ 0 → Taken s xs
-of-first s xs j (beyond w) e p z = absurd (omega arith)
-of-first s xs j (halted w c n y) e p z = absurd (y z)
-of-first s xs j (moved w k c a f) e p z = record { limits = w; unended = p .0; whole = p .1; kind = k; coded = c; placed = a; faultless = f; is = e }
-
-pub takes : (s : State) (xs : List ℕ) → judgedFirst s xs .number ≡ 0 → Taken s xs
-takes s xs z = of-first s xs (judgedFirst s xs) (first s xs) refl (parts s xs z) z
+-- ## A line taken by both
 
 judged-as : (w : State) (xs : List ℕ) → within w ≡ true → isDone w ≡ false → isWhole xs ≡ true → (k : Kind) → codeOf (take 5 (take 50 xs)) ≡ Of k → allowed w k ≡ true
     → faultOf (w .said) (w .group) (w .batch) k (take 50 xs) .number ≡ 0 → judgedFirst w xs ≡ taken k (nextFor w k (fieldsOf k (take 50 xs)))

@@ -34,6 +34,7 @@ use Rattle.record.specs.Read.{typeOr, transactionFor}
 use Rattle.record.specs.declared.Batch.{Batch}
 use Rattle.record.specs.declared.Fault.{Fault}
 use Rattle.record.proofs.Faulting.{fault-numbers}
+use Rattle.record.proofs.Coding.{code-is, no-code}
 use Rattle.reading.specs.declared.Stage.{Stage}
 use Rattle.reading.specs.declared.Stage.the-variants.{Start, Headed, Opened, Ordered, Item, Closed, Done}
 use Rattle.reading.specs.declared.Name.{Name}
@@ -211,48 +212,6 @@ module _ (s : State) (line : List ℕ) (k : Kind) (e : take 5 line ≡ code k) w
 
 -- ## The kind of a line
 
-code-of : (k : Kind) → codeOf (code k) ≡ Of k
-unfolding codeOf debitCode batchCode fileCode same pick
-code-of FileHeader = refl
-code-of BatchHeaderB = refl
-code-of BatchHeaderC = refl
-code-of FixedDescription = refl
-code-of OrderingParty = refl
-code-of Transaction = refl
-code-of NamePayer = refl
-code-of CityPayer = refl
-code-of PaymentReference = refl
-code-of Description = refl
-code-of NameBeneficiary = refl
-code-of CityBeneficiary = refl
-code-of BatchTrailer = refl
-code-of FileTrailer = refl
-
-abbrev among : List ℕ → List Kind → Code
-among c [] = Unknown
-among c (k ∷ ks) = pick (same c (code k)) (Of k) (among c ks)
-
--- in the order of codeOf
-abbrev asked : List Kind
-asked =
-    Transaction ∷ PaymentReference ∷ Description ∷ NameBeneficiary ∷ CityBeneficiary ∷ NamePayer ∷ CityPayer ∷ BatchHeaderB ∷ BatchHeaderC ∷ FixedDescription ∷ OrderingParty ∷ BatchTrailer ∷ FileHeader ∷ FileTrailer ∷ []
-
-is-among : (c : List ℕ) → codeOf c ≡ among c asked
-unfolding codeOf debitCode batchCode fileCode
-is-among c = refl
-
-among-code : (c : List ℕ) (ks : List Kind) (k : Kind) → among c ks ≡ Of k → c ≡ code k
-unfolding pick
-among-code c [] k e = absurd (let z : _≡_ {A = ℕ} 0 1 = cc in omega arith)
-among-code c (m ∷ ks) k e = by (same c (code m)) refl e (among-code c ks k)
-  where
-    by : (q : Bool) → same c (code m) ≡ q → pick q (Of m) (among c ks) ≡ Of k → (among c ks ≡ Of k → c ≡ code k) → c ≡ code k
-    by true h e r = let i : m ≡ k = cc in same→eq c (code m) (subst T (sym h) tt) ∙ ap code i
-    by false h e r = r e
-
-no-code : (c : List ℕ) → codeOf c ≡ Unknown → (k : Kind) → c ≡ code k → ⊥
-no-code c u k e = let q : _≡_ {A = Code} Unknown (Of k) = sym u ∙ ap codeOf e ∙ code-of k in let z : _≡_ {A = ℕ} 0 1 = cc in omega arith
-
 no-choice : {p : Phase} (c : List ℕ) (os : List (Choice p)) → ((k : Kind) → c ≡ code k → ⊥) → find c os ≡ none
 no-choice {p} c os h = by (find c os) refl
   where
@@ -274,7 +233,7 @@ unfolding judgedLine judgedKind
 line-agrees s line = by (codeOf (take 5 line)) refl
   where
     by : (c : Code) → codeOf (take 5 line) ≡ c → Agrees s line (judgedCode s line c)
-    by (Of k) e = by-place s line k (among-code (take 5 line) asked k (sym (is-among (take 5 line)) ∙ e)) (allowed s k) refl
+    by (Of k) e = by-place s line k (code-is (take 5 line) k e) (allowed s k) refl
     by Unknown e =
         let n = no-code (take 5 line) e in
         stops 1 2 (omega arith) (step-out (phaseOf s) (contextOf (s .batch)) line (no-choice (take 5 line) (choices (phaseOf s)) n) ∙ ap the.lost (no-kind (take 5 line) kinds n))

@@ -29,6 +29,7 @@ use Rattle.record.specs.Read.{recordFor, textFor}
 use Rattle.record.specs.declared.Batch.{Batch}
 use Rattle.record.specs.declared.Fault.{Fault}
 use Rattle.record.proofs.Reading.{is-formed}
+use Rattle.record.proofs.Coding.{code-is}
 use Rattle.reading.specs.State.{within}
 use Rattle.reading.specs.Step.{nextFor, refused, judgedLine, isWhole, isDone, judgedFirst, readBy, stepAt}
 use Rattle.reading.specs.declared.State.{State}
@@ -36,7 +37,7 @@ use Rattle.reading.specs.declared.Judged.{Judged}
 use Rattle.reading.specs.declared.LineRead.{LineRead}
 use Rattle.reading.proofs.Answers.{step-first}
 use Rattle.reading.proofs.Running.{first-52}
-use Rattle.reading.proofs.Verdicts.{First, beyond, halted, moved, first}
+use Rattle.reading.proofs.Verdicts.{Taken, takes}
 use Rattle.writer.specs.Encoding.{lineEnd}
 
 -- ## Rows that all passed
@@ -102,61 +103,6 @@ numbered said g b CityBeneficiary x = (tt, tt)
 numbered said g b BatchTrailer x = ((tt, (tt, tt)), ((tt, tt), ((tt, (tt, tt)), (tt, tt))))
 numbered said g b FileTrailer x = (tt, tt)
 
--- ## Codes
-
-pub code-found : (k : Kind) → codeOf (code k) ≡ Of k
-unfolding codeOf debitCode batchCode fileCode same pick
-code-found FileHeader = refl
-code-found BatchHeaderB = refl
-code-found BatchHeaderC = refl
-code-found FixedDescription = refl
-code-found OrderingParty = refl
-code-found Transaction = refl
-code-found NamePayer = refl
-code-found CityPayer = refl
-code-found PaymentReference = refl
-code-found Description = refl
-code-found NameBeneficiary = refl
-code-found CityBeneficiary = refl
-code-found BatchTrailer = refl
-code-found FileTrailer = refl
-
-one-of : (k m : Kind) → Of k ≡ Of m → k ≡ m
-one-of k m e = cc
-
-pub one-kind : {c : List ℕ} (k m : Kind) → codeOf c ≡ Of k → c ≡ code m → k ≡ m
-one-kind k m e f = one-of k m (sym e ∙ ap codeOf f ∙ code-found m)
-
-unknown≢of : (k : Kind) → Unknown ≡ Of k → ⊥
-unknown≢of k e = let z : _≡_ {A = ℕ} 0 1 = cc in omega arith
-
--- one look-up: this kind, or what comes after it
-look : (c : List ℕ) (m k : Kind) (after : Code) → pick (same c (code m)) (Of m) after ≡ Of k → (after ≡ Of k → c ≡ code k) → c ≡ code k
-unfolding pick
-look c m k after e f = by (same c (code m)) refl e
-  where
-    by : (q : Bool) → same c (code m) ≡ q → pick q (Of m) after ≡ Of k → c ≡ code k
-    by true h g = same→eq c (code m) (of-eq _ h) ∙ ap code (one-of m k g)
-    by false h g = f g
-
-pub code-is : (c : List ℕ) (k : Kind) → codeOf c ≡ Of k → c ≡ code k
-unfolding codeOf debitCode batchCode fileCode
-code-is c k e =
-    look c Transaction k _ e
-    (λ e. look c PaymentReference k _ e
-    (λ e. look c Description k _ e
-    (λ e. look c NameBeneficiary k _ e
-    (λ e. look c CityBeneficiary k _ e
-    (λ e. look c NamePayer k _ e
-    (λ e. look c CityPayer k _ e
-    (λ e. look c BatchHeaderB k _ e
-    (λ e. look c BatchHeaderC k _ e
-    (λ e. look c FixedDescription k _ e
-    (λ e. look c OrderingParty k _ e
-    (λ e. look c BatchTrailer k _ e
-    (λ e. look c FileHeader k _ e
-    (λ e. look c FileTrailer k _ e (λ e. absurd (unknown≢of k e)))))))))))))))
-
 -- ## An accepted line
 
 next-line : (s : State) (k : Kind) (x : Fields k) → nextFor s k x .line ≡ s .line + 1
@@ -190,30 +136,19 @@ long : (xs : List ℕ) → isWhole xs ≡ true → 52 ≤ length xs
 unfolding isWhole
 long xs w = leb-true 52 (length xs) (and-first _ _ w)
 
-is-whole : (s : State) (xs : List ℕ) → judgedFirst s xs .number ≡ 0 → isWhole xs ≡ true
-unfolding judgedFirst pick
-is-whole s xs z = by (within s) (isDone s) (isWhole xs) z
-  where
-    by : (a b c : Bool) → pick a (pick b (refused s 0 11) (pick c (judgedLine s (take 50 xs)) (refused s 0 1))) (refused s 0 24) .number ≡ 0 → c ≡ true
-    by true true c z = absurd (omega arith)
-    by true false true z = refl
-    by true false false z = absurd (omega arith)
-    by false b c z = absurd (omega arith)
-
-by-first : (s : State) (xs : List ℕ) (j : Judged) → First s xs j → isWhole xs ≡ true → j .number ≡ 0 → stepAt s xs ≡ readBy (take 50 xs) (j .code) j → Accepted s xs
+of-taken : {s : State} {xs : List ℕ} (t : Taken s xs) → stepAt s xs ≡ readBy (take 50 xs) (judgedFirst s xs .code) (judgedFirst s xs) → Accepted s xs
 unfolding faultOf firstFault
-by-first s xs j (beyond w) h z e = absurd (omega arith)
-by-first s xs j (halted w c n y) h z e = absurd (y z)
-by-first s xs j (moved w k c a f) h z e =
+of-taken {s} {xs} t e =
+    let k = t .kind in
     let x = fieldsOf k (take 50 xs) in
-    let l : length (take 50 xs) ≡ 50 = length-take-le 50 xs (omega (arith, long xs h)) in
+    let l : length (take 50 xs) ≡ 50 = length-take-le 50 xs (omega (arith, long xs (t .whole))) in
     let v = line-widths k .1 in
     record {
-      whole = h;
+      whole = t .whole;
       kind = k;
-      coded = c;
-      fields = faultless 6 (layout k) (testsFor (s .said) (s .group) (s .batch) k x) (take 50 xs) (checkRows (maximaFor (s .batch) k x)) (omega arith) (omega arith) (numbered (s .said) (s .group) (s .batch) k x) f;
-      step = e ∙ ap (λ n. record { answer = 0; line = n; column = 0; next = nextFor s k x; read = recordFor k x; text = textFor k x }) (next-line s k x);
+      coded = t .coded;
+      fields = faultless 6 (layout k) (testsFor (s .said) (s .group) (s .batch) k x) (take 50 xs) (checkRows (maximaFor (s .batch) k x)) (omega arith) (omega arith) (numbered (s .said) (s .group) (s .batch) k x) (t .faultless);
+      step = e ∙ ap (λ (j : Judged). readBy (take 50 xs) (j .code) j) (t .is) ∙ ap (λ n. record { answer = 0; line = n; column = 0; next = nextFor s k x; read = recordFor k x; text = textFor k x }) (next-line s k x);
     }
 
 pub step-answer : (line : List ℕ) (c : Code) (j : Judged) → readBy line c j .answer ≡ j .number
@@ -225,7 +160,7 @@ accepts s xs h z =
     let j = judgedFirst s xs in
     let e = step-first s xs h in
     let n : j .number ≡ 0 = sym (ap (λ (r : LineRead). r .answer) e ∙ step-answer (take 50 xs) (j .code) j) ∙ z in
-    by-first s xs j (first s xs) (is-whole s xs n) n e
+    of-taken (takes s xs n) e
 
 -- its 52 bytes by its fields
 module _ {s : State} {xs : List ℕ} (a : Accepted s xs) where

@@ -36,7 +36,8 @@ use Rattle.writer.specs.Promises.{recordOf}
 use Rattle.writer.specs.declared.Entry.{Entry}
 use Rattle.writer.specs.declared.Entry.the-variants.{FileHeader, BatchHeader, FixedDescription, OrderingParty, Item, NamePayer, PaymentReference, Description, NameBeneficiary, BatchTrailer, FileTrailer}
 use Rattle.writer.proofs.Building.{spaces-split, number-long, text-long, blank-long, group-long, type-long, test-long}
-use Rattle.writer.proofs.Accepting.{Accepted, takenAs, accepts, one-kind, accepted-body}
+use Rattle.record.proofs.Coding.{one-kind}
+use Rattle.writer.proofs.Accepting.{Accepted, takenAs, accepts, accepted-body}
 
 -- ## What a field carries
 

@@ -34,7 +34,8 @@ use Rattle.writer.specs.declared.Entry.{Entry}
 use Rattle.writer.specs.declared.Written.{Written}
 use Rattle.writer.proofs.Placing.{answer-via}
 use Rattle.reading.proofs.Answers.{step-first}
-use Rattle.writer.proofs.Accepting.{code-found, step-answer}
+use Rattle.record.proofs.Coding.{code-found}
+use Rattle.writer.proofs.Accepting.{step-answer}
 use Rattle.writer.proofs.Back.{Sized, AllSized, field-long, sized, line-52, front-code, front-body}
 
 -- ## Rows
