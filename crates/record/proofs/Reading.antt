@@ -4,13 +4,11 @@ use mathlib.Core.Path.{_≡_, refl, sym, ap, _∙_, subst}
 use mathlib.Core.List.{List, [], _∷_}
 use mathlib.Core.Bool.{Bool, true, false, _&&_}
 use native.Mathlib.Omega.{arith}
-use native.Mathlib.Numerals.{add-one}
 use borrow.Author.Needs.{needs}
-use borrow.Author.Tests.{eq-eqb, eqb-true, leb-true, le-leb, lt-leb}
-use lib.ListN.{length, getD, set, take, drop, length-take}
-use lib.Seq.{paste, paste-zero, paste-suc}
+use borrow.Author.Tests.{eq-eqb, eqb-true, leb-true}
+use lib.ListN.{length, take, drop, length-take}
 use lib.Dec.{T, leb, eqb}
-use Rattle.machine.specs.Lists.{pick, all, same, isDigit}
+use Rattle.machine.specs.Lists.{pick, all, same, isDigit, putIn}
 use Rattle.machine.specs.Digits.{pow10, valueOf}
 use Rattle.machine.proofs.Base.{and-first, and-second, true≢false}
 use Rattle.format.specs.Fields.{Field, numeric, filled, optional, free, filler, width, wellFormed, readField}
@@ -64,32 +62,11 @@ record-via line e h = rw e h
 pub text-via : {k m : Kind} {x : List ℕ} (line : List ℕ) → k ≡ m → x ≡ textFor m (valuesOf m line) → x ≡ textFor k (valuesOf k line)
 text-via line e h = rw e h
 
-pub record Pasted (s t : List ℕ) (i : ℕ) : Type 0 where
-  pub within : i ≤ length s
-  pub is : t ≡ paste noText 0 s i
+pub text-put : {p o : List ℕ} (t : List ℕ) → p ≡ t → o ≡ putIn noText 0 p → o ≡ padded t
+unfolding padded
+text-put t e h = h ∙ ap (putIn noText 0) e
 
-pub pasted-none : (s : List ℕ) → Pasted s noText 0
-pasted-none s = record { within = omega arith; is = paste-zero noText 0 s }
-
-pub too-long : (s : List ℕ) → 35 < length s → noText ≡ padded s
-unfolding padded pick
-too-long s h = rw (lt-leb (length s) 35 h)
-
-module _ {s t : List ℕ} {i : ℕ} (p : Pasted s t i) (h : length s ≤ 35) where
-  pub pasted-more : i < length s → Pasted s (set t i (getD s i 0)) (i + 1)
-  pasted-more k =
-      let a : 0 + i < 35 = omega arith in
-      let z : 0 + i ≡ i = omega arith in
-      record { within = omega arith; is = rw (add-one, p .is) (ap (λ n. set (paste noText 0 s i) n (getD s i 0)) (sym z) ∙ paste-suc noText 0 s i 0 a k) }
-
-  pub pasted-all : length s ≤ i → t ≡ padded s
-  unfolding padded pick
-  pasted-all k = let e : i ≡ length s = omega (arith, p) in rw (le-leb (length s) 35 h, p .is, e)
-
-  pub index-fits : i < length s → i < 35
-  index-fits k = omega arith
-
-pub ruleset copies = (pasted-none, too-long, pasted-more, pasted-all, index-fits, needs)
+pub ruleset puts = (text-put, needs)
 
 -- ## For users: the values of an accepted line are its fields
 

@@ -2,10 +2,7 @@
 use Prim.Native.Nat.{ℕ, _+_}
 use mathlib.Core.List.{List, [], _∷_}
 use mathlib.Core.Bool.{Bool, true, false}
-use lib.ListN.{length}
-use lib.Seq.{paste}
-use lib.Dec.{leb}
-use Rattle.machine.specs.Lists.{pick, same, spaces}
+use Rattle.machine.specs.Lists.{same, spaces, putIn}
 use Rattle.format.specs.Fields.{Field, numeric, filled, optional, free, filler, width, Value, Values}
 use Rattle.format.specs.Records.{layout, Fields, creationDate, sender, identification, duplicateCode, group, orderingAccount, sequence, batchIdentification, unidentified, nameCode, desiredDate, partyName, testCode, type, amount, payer, beneficiary, totalAmount, totalAccounts, items}
 use Rattle.format.specs.Rules.{groupOf, typeOf}
@@ -73,7 +70,7 @@ abbrev pub noText : List ℕ
 noText = spaces 35
 
 unfoldable pub padded : List ℕ → List ℕ
-padded t = pick (leb (length t) 35) (paste noText 0 t (length t)) noText
+padded t = putIn noText 0 t
 
 abbrev pub textFor : (k : Kind) → Fields k → List ℕ
 textFor FileHeader x = padded (sender x)

@@ -12,6 +12,7 @@ use crate::types::type_in;
 use crate::types::type_or;
 use field::bytes::is_same;
 use field::bytes::part;
+use field::bytes::put;
 use field::numbers::digits_at;
 use format::Kind;
 
@@ -97,25 +98,12 @@ pub fn record_in(kind: Kind, line: &[u8]) -> Record
 }
 
 // A text at the front of 35 places, the others spaces.
-fn padded_text(s: &[u8]) -> [u8; 35]
-    ensures { λ r. ⌜ r ≡ padded (now (s .entry)) ⌝ }
-{
-    let mut t = [32u8; 35];
-    if 35 < s.len() {
-        return t;
-    }
-    let mut i: usize = 0;
-    while i < s.len() {
-        t[i] = s[i];
-        i += 1;
-    }
-    t
-}
-
 fn text_at(line: &[u8], at: usize, width: usize) -> [u8; 35]
     ensures { λ r. ⌜ r ≡ padded (take width (drop at (now (line .entry)))) ⌝ }
 {
-    padded_text(part(line, at, width))
+    let mut t = [32u8; 35];
+    put(part(line, at, width), 0, &mut t);
+    t
 }
 
 pub fn text_in(kind: Kind, line: &[u8]) -> [u8; 35]

@@ -12,6 +12,7 @@ use Rattle.machine.specs.Lists.{pick, all, same, isDigit, isSpace, spaces}
 use Rattle.machine.specs.Digits.{pow10, decimal, valueOf}
 use Rattle.machine.proofs.Base.{of-eq, yes, append-inj}
 use Rattle.machine.proofs.Digits.{length-decimal, decimal-digits, value-decimal, blank}
+use Rattle.field.proofs.Putting.{put-front}
 use Rattle.format.specs.Fields.{Field, numeric, filled, optional, free, filler, width, Value, Values, widths, printable, leftJustified, wellFormed, readField, writeField, writeFields, Fits}
 use Rattle.format.specs.Records.{layout, code}
 use Rattle.format.specs.Rules.{groupText, groupOf, typeText, typeOf}
@@ -222,15 +223,11 @@ record-back s t FileTrailer f = refl
 -- ## The text: all of it
 
 pub padded-is : (w : ℕ) (t : List ℕ) → length t ≡ w → w ≤ 35 → padded t ≡ t ++ spaces (35 - w)
-unfolding padded pick
+unfolding padded
 padded-is w t h k =
     let z : 35 ≡ w + (35 - w) = omega arith in
     let d : drop w (spaces 35) ≡ spaces (35 - w) = ap (λ n. drop w (spaces n)) z ∙ ap (drop w) (spaces-split w (35 - w)) ∙ drop-at (spaces w) (spaces (35 - w)) w (length-replicate w 32) in
-    ap (λ b. pick b (paste noText 0 t (length t)) noText) (le-leb (length t) 35 (omega arith))
-    ∙ ap₂ _++_ (take-all (length t) t (omega arith)) (ap (λ n. drop n noText) (zero-more (length t) ∙ h) ∙ d)
-  where
-    zero-more : (n : ℕ) → 0 + n ≡ n
-    zero-more n = omega arith
+    put-front noText t (omega arith) refl ∙ ap (λ n. t ++ drop n noText) h ∙ ap (λ r. t ++ r) d
 
 text-all : (w : ℕ) (t : List ℕ) → length t ≡ 35 → w ≤ 35 → T (all isSpace (drop w t)) → padded (take w t) ≡ t
 text-all w t h k b =
