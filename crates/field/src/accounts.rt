@@ -58,7 +58,7 @@ fn is_account(s: &[u8], v: u64) -> bool
 fn account_number(line: &[u8], at: usize) -> Numeric
     ensures { λ r. ⌜ r ≡ numericOf (rangeTests 1 maxAccount) (take 10 (drop at (now (line .entry)))) ⌝ }
 {
-    in_range(digits_at(line, at, 10), 1, 9999999999)
+    in_range(digits_at(line, at, 10), 1, format::MAX_ACCOUNT)
 }
 
 // The ordering account of a batch.

@@ -76,3 +76,6 @@ pub const NO_ROOM: u8 = 12;
 pub const NO_SUCH_ITEM: u8 = 13;
 
 pub const BEYOND_LIMITS: u8 = 24;
+
+// Ten digits.
+pub const MAX_ACCOUNT: u64 = 9999999999;

@@ -3,14 +3,14 @@ ghost use mathlib.Core.Path.{_≡_};
 ghost use Rattle.reading.specs.Check.{checkOf};
 use crate::Answer;
 use crate::State;
-use crate::judge::lines;
 use crate::line::refusal_line;
 
 // The answer of a file, with its line and column.
 pub fn check(file: &[u8]) -> Answer
     ensures { λ r. ⌜ r ≡ checkOf (now (file .entry)) ⌝ }
 {
-    let j = lines(State::start(), file);
+    let start = State::start();
+    let j = start.lines(file);
     let next = j.next;
     if j.number != 0 {
         return Answer {

@@ -4,7 +4,7 @@ ghost use mathlib.Core.Bool.{true};
 ghost use Prim.Native.Nat.{_≤_};
 ghost use lib.ListN.{take, drop};
 ghost use Rattle.format.specs.declared.Kind.the-variants.{Transaction};
-ghost use Rattle.reading.specs.State.{Kept, isKept, within};
+ghost use Rattle.reading.specs.State.{Kept, maxLine, isKept, within};
 ghost use Rattle.reading.specs.Order.{isTransaction};
 ghost use Rattle.reading.specs.Step.{refused, judgedAs, judgedKind, judgedLine, isWhole, judgedFirst};
 ghost use Rattle.reading.specs.Check.{linesFrom, linesOf};
@@ -65,7 +65,7 @@ impl State {
 
     // A transaction, whose fields are read once.
     fn transaction(self, line: &[u8]) -> Judged
-        requires line { ⌜ self .line ≤ 6999369995 ⌝ }
+        requires line { ⌜ self .line ≤ maxLine ⌝ }
         requires kept { ⌜ Kept self ⌝ }
         ensures { λ r. ⌜ r ≡ judgedAs self Transaction (now (line .entry)) ⌝ }
     {
@@ -90,7 +90,7 @@ impl State {
     }
 
     fn judge_as(self, k: Kind, line: &[u8]) -> Judged
-        requires line { ⌜ self .line ≤ 6999369995 ⌝ }
+        requires line { ⌜ self .line ≤ maxLine ⌝ }
         requires kept { ⌜ Kept self ⌝ }
         ensures { λ r. ⌜ r ≡ judgedAs self k (now (line .entry)) ⌝ }
     {
@@ -110,7 +110,7 @@ impl State {
     }
 
     fn judge_kind(self, k: Kind, line: &[u8]) -> Judged
-        requires line { ⌜ self .line ≤ 6999369995 ⌝ }
+        requires line { ⌜ self .line ≤ maxLine ⌝ }
         requires kept { ⌜ Kept self ⌝ }
         ensures { λ r. ⌜ r ≡ judgedKind self k (now (line .entry)) ⌝ }
     {
@@ -126,7 +126,7 @@ impl State {
 
     // The 50 characters of a line.
     fn judge(self, line: &[u8]) -> Judged
-        requires line { ⌜ self .line ≤ 6999369995 ⌝ }
+        requires line { ⌜ self .line ≤ maxLine ⌝ }
         requires kept { ⌜ Kept self ⌝ }
         ensures { λ r. ⌜ r ≡ judgedLine self (now (line .entry)) ⌝ }
     {
@@ -143,7 +143,7 @@ impl State {
         ensures { λ r. ⌜ r ≡ judgedFirst self (now (rest .entry)) ⌝ }
     {
         let stage = self.stage;
-        if 6999369995 < self.line {
+        if State::MAX_LINE < self.line {
             return self.refused(format::BEYOND_LIMITS, 0);
         }
         if is_stage(stage, Stage::Done) {
@@ -153,6 +153,19 @@ impl State {
             self.judge(part(rest, 0, 50))
         } else {
             self.refused(format::BROKEN_LINE, 0)
+        }
+    }
+}
+
+impl State {
+    // All lines of some bytes, up to the first that is refused.
+    pub(crate) fn lines(self, bytes: &[u8]) -> Judged
+        ensures { λ r. ⌜ r ≡ linesOf self (now (bytes .entry)) ⌝ }
+    {
+        if is_within(self) {
+            run(self, bytes)
+        } else {
+            self.refused(format::BEYOND_LIMITS, 0)
         }
     }
 }
@@ -176,8 +189,8 @@ fn is_kept(s: State) -> bool
     let i = s.item;
     (b.items <= Batch::MAX_ITEMS)
         & ((b.total <= Batch::MAX_TOTAL)
-            & ((b.accounts <= 9999999999)
-                & ((b.sequence <= 9999) & ((b.fixed <= 4) & (i.descriptions <= 4)))))
+            & ((b.accounts <= format::MAX_ACCOUNT)
+                & ((b.sequence <= Batch::MAX_SEQUENCE) & ((b.fixed <= 4) & (i.descriptions <= 4)))))
 }
 
 fn run(start: State, bytes: &[u8]) -> Judged
@@ -199,16 +212,6 @@ fn run(start: State, bytes: &[u8]) -> Judged
 pub(crate) fn is_within(s: State) -> bool
     ensures { λ r. ⌜ r ≡ within s ⌝ }
 {
-    (s.line <= 6999369995) & is_kept(s)
+    (s.line <= State::MAX_LINE) & is_kept(s)
 }
 
-// All lines of some bytes, up to the first that is refused.
-pub fn lines(start: State, bytes: &[u8]) -> Judged
-    ensures { λ r. ⌜ r ≡ linesOf start (now (bytes .entry)) ⌝ }
-{
-    if is_within(start) {
-        run(start, bytes)
-    } else {
-        start.refused(format::BEYOND_LIMITS, 0)
-    }
-}

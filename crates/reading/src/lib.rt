@@ -13,7 +13,6 @@ mod order;
 mod step;
 
 pub use file::check;
-pub use judge::lines;
 
 // How far a file is read: before its header, after it, in a batch before and after its ordering party, in an item, after a batch, after the file trailer.
 pub enum Stage {
@@ -87,6 +86,9 @@ fn no_item() -> OpenItem
 }
 
 impl State {
+    // The lines of the longest accepted file.
+    pub const MAX_LINE: u64 = 6999369995;
+
     // Before the first line.
     pub fn start() -> State
         ensures { λ r. ⌜ r ≡ startState ⌝ }

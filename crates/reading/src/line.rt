@@ -1,12 +1,12 @@
 // The line reader.
 ghost use mathlib.Core.Path.{_≡_};
-ghost use Prim.Native.Nat.{_≤_};
+ghost use Prim.Native.Nat.{_+_, _≤_};
+ghost use Rattle.reading.specs.State.{maxLine};
 ghost use Rattle.reading.specs.Step.{refusalLine, nothingRead, endedAt, stepAt};
 use crate::LineRead;
 use crate::Stage;
 use crate::State;
 use crate::judge::is_within;
-use crate::judge::lines;
 use crate::order::is_stage;
 use field::bytes::part;
 use format::Code;
@@ -16,7 +16,7 @@ use record::read::text_in;
 
 // The line that a refusal names: 24 names none.
 pub(crate) fn refusal_line(number: u8, line: u64) -> u64
-    requires { ⌜ refusalLine number line ≤ 6999369996 ⌝ }
+    requires { ⌜ refusalLine number line ≤ maxLine + 1 ⌝ }
     ensures { λ r. ⌜ r ≡ refusalLine number line ⌝ }
 {
     if number == format::BEYOND_LIMITS {
@@ -62,7 +62,7 @@ impl State {
             return self.ended();
         }
         let line = part(rest, 0, 50);
-        let j = lines(self, part(rest, 0, 52));
+        let j = self.lines(part(rest, 0, 52));
         let next = j.next;
         let code = j.code;
         match code {

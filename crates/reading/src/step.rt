@@ -3,7 +3,7 @@ ghost use mathlib.Core.Path.{_≡_};
 ghost use Prim.Native.Nat.{_≤_};
 ghost use Rattle.record.specs.Read.{valuesOf};
 ghost use Rattle.format.specs.declared.Kind.the-variants.{BatchHeaderB};
-ghost use Rattle.reading.specs.State.{Kept};
+ghost use Rattle.reading.specs.State.{Kept, maxLine};
 ghost use Rattle.reading.specs.Step.{onward, moved, openedBatch, opened, fixedOne, withFixed, paidBatch, nameIf, openedItem, paid, named, afterText, texted, closedBatch, closed, nextFor};
 ghost use Rattle.reading.specs.Bounds.{Roomy, Bounded};
 use crate::Name;
@@ -107,7 +107,7 @@ fn after_text(n: Name) -> Name
 impl State {
     // One line more: all that a record can change.
     fn onward(self, stage: Stage, group: Group, said: bool, batch: Batch, item: OpenItem) -> State
-        requires { ⌜ self .line ≤ 6999369995 ⌝ }
+        requires { ⌜ self .line ≤ maxLine ⌝ }
         ensures { λ r. ⌜ r ≡ onward self stage group said batch item ⌝ }
     {
         State {
@@ -121,7 +121,7 @@ impl State {
     }
 
     fn moved(self, stage: Stage) -> State
-        requires { ⌜ self .line ≤ 6999369995 ⌝ }
+        requires { ⌜ self .line ≤ maxLine ⌝ }
         ensures { λ r. ⌜ r ≡ moved self stage ⌝ }
     {
         let group = self.group;
@@ -131,7 +131,7 @@ impl State {
     }
 
     fn opened(self, line: &[u8]) -> State
-        requires { ⌜ self .line ≤ 6999369995 ⌝ }
+        requires { ⌜ self .line ≤ maxLine ⌝ }
         ensures { λ r. ⌜ r ≡ opened self (valuesOf BatchHeaderB (now (line .entry))) ⌝ }
     {
         let batch = opened_batch(line);
@@ -141,7 +141,7 @@ impl State {
     }
 
     fn with_fixed(self) -> State
-        requires line { ⌜ self .line ≤ 6999369995 ⌝ }
+        requires line { ⌜ self .line ≤ maxLine ⌝ }
         requires kept { ⌜ Kept self ⌝ }
         ensures { λ r. ⌜ r ≡ withFixed self ⌝ }
     {
@@ -154,7 +154,7 @@ impl State {
     }
 
     pub(crate) fn paid(self, t: Transaction) -> State
-        requires line { ⌜ self .line ≤ 6999369995 ⌝ }
+        requires line { ⌜ self .line ≤ maxLine ⌝ }
         requires kept { ⌜ Kept self ⌝ }
         requires transaction { ⌜ Bounded t ⌝ }
         ensures { λ r. ⌜ r ≡ paid self t ⌝ }
@@ -167,7 +167,7 @@ impl State {
     }
 
     fn with_item(self, item: OpenItem) -> State
-        requires { ⌜ self .line ≤ 6999369995 ⌝ }
+        requires { ⌜ self .line ≤ maxLine ⌝ }
         ensures { λ r. ⌜ r ≡ onward self (self .stage) (self .group) (self .said) (self .batch) item ⌝ }
     {
         let stage = self.stage;
@@ -177,7 +177,7 @@ impl State {
     }
 
     fn named(self, name: Name) -> State
-        requires { ⌜ self .line ≤ 6999369995 ⌝ }
+        requires { ⌜ self .line ≤ maxLine ⌝ }
         ensures { λ r. ⌜ r ≡ named self name ⌝ }
     {
         let i = self.item;
@@ -190,7 +190,7 @@ impl State {
     }
 
     fn texted(self, reference: bool, descriptions: u64) -> State
-        requires { ⌜ self .line ≤ 6999369995 ⌝ }
+        requires { ⌜ self .line ≤ maxLine ⌝ }
         ensures { λ r. ⌜ r ≡ texted self reference descriptions ⌝ }
     {
         let i = self.item;
@@ -205,7 +205,7 @@ impl State {
     }
 
     fn closed(self) -> State
-        requires { ⌜ self .line ≤ 6999369995 ⌝ }
+        requires { ⌜ self .line ≤ maxLine ⌝ }
         ensures { λ r. ⌜ r ≡ closed self ⌝ }
     {
         let group = self.group;
@@ -217,7 +217,7 @@ impl State {
 
     // The state after a line of that kind.
     pub(crate) fn after(self, k: Kind, line: &[u8]) -> State
-        requires line { ⌜ self .line ≤ 6999369995 ⌝ }
+        requires line { ⌜ self .line ≤ maxLine ⌝ }
         requires kept { ⌜ Kept self ⌝ }
         ensures { λ r. ⌜ r ≡ nextFor self k (valuesOf k (now (line .entry))) ⌝ }
     {

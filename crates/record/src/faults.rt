@@ -115,7 +115,7 @@ fn file_header(line: &[u8]) -> Fault
 fn sequence_no(line: &[u8], before: u64) -> u8
     ensures { λ r. ⌜ r ≡ fieldNo (numeric 4) (test (inRange 1 maxSequence (valueOf (take 4 (drop 17 (now (line .entry)))))) wrongValue ∷ test (isNext before (valueOf (take 4 (drop 17 (now (line .entry)))))) differs ∷ []) (take 4 (drop 17 (now (line .entry)))) ⌝ }
 {
-    let n = ranged(line, 17, 4, 1, 9999);
+    let n = ranged(line, 17, 4, 1, Batch::MAX_SEQUENCE);
     if n.number != 0 {
         return n.number;
     }

@@ -30,6 +30,8 @@ impl Batch {
 
     pub const MAX_TOTAL: u64 = 4537802160901;
 
+    pub const MAX_SEQUENCE: u64 = 9999;
+
     pub fn empty() -> Batch
         ensures { λ r. ⌜ r ≡ emptyBatch ⌝ }
     {

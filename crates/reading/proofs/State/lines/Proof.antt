@@ -2,8 +2,8 @@ use borrow.Author.Needs.{needs}
 use Rattle.reading.proofs.Limits.{within-kept}
 use Rattle.field.proofs.Picks.{picks}
 use Rattle.reading.specs.Check.{linesOf}
-use Rattle.reading.proofs.judge.lines.Statement.{statement}
-use Rattle.reading.proofs.judge.lines.Tie as tie
+use Rattle.reading.proofs.State.lines.Statement.{statement}
+use Rattle.reading.proofs.State.lines.Tie as tie
 
 pub lines-spec : {M : Type 1} → statement M
 unfolding linesOf
