@@ -28,7 +28,8 @@ uint8_t clieop_item(const uint8_t *file, size_t length, uint64_t batch, uint64_t
                     uint64_t *place, size_t places);
 
 /* The file written again without its city records into out, which is untouched unless 0 is returned.
- * place: line, column, number of bytes written. */
+ * place: line, column, number of bytes written. Where `room` is smaller than what is to be written, 12 is returned where nothing else applies,
+ * and line is the file's number of lines: 52 bytes for each are room enough. */
 uint8_t clieop_rewrite(const uint8_t *file, size_t length, uint8_t *out, size_t room, uint64_t *place, size_t places);
 
 #ifdef __cplusplus

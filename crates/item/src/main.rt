@@ -208,7 +208,7 @@ fn with_digit(value: u64, digit: u8) -> u64 {
     value * 10 + units as u64
 }
 
-// The number that argument i is, of any number of digits.
+// The number that argument i is.
 fn number(i: usize) -> Digits {
     let mut text = [0u8; 4096];
     let n = os::arg(i, &mut text);
