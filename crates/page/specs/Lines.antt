@@ -2,18 +2,14 @@
 use Prim.Native.Nat.{ℕ, zero, suc, _+_, _-_}
 use mathlib.Core.List.{List, [], _∷_, _++_}
 use mathlib.Core.Bool.{Bool}
-use lib.ListN.{length, take, drop}
+use lib.ListN.{length}
 use lib.Dec.{leb, eqb}
-use Rattle.machine.specs.Lists.{pick}
+use Rattle.machine.specs.Lists.{pick, placed}
 use Rattle.machine.specs.Digits.{decimal}
 
 -- 'Each line ends in byte 10'
 abbrev pub lineOf : List ℕ → List ℕ → List ℕ
 lineOf key text = key ++ (text ++ (10 ∷ []))
-
--- bytes at a place, and the others as they were
-unfoldable pub placed : List ℕ → ℕ → List ℕ → List ℕ
-placed page at text = (take at page ++ text) ++ drop (at + length text) page
 
 -- A LINE ON A PAGE: after what it is filled with; where it has no room it is left out whole
 unfoldable pub withLine : List ℕ × ℕ → List ℕ → List ℕ × ℕ
@@ -52,5 +48,5 @@ abbrev pub inputKey : List ℕ
 inputKey = 105 ∷ 110 ∷ 112 ∷ 117 ∷ 116 ∷ 61 ∷ []
 
 -- THE NAME OF AN INPUT, where there are several
-unfoldable pub withInput : List ℕ → List ℕ → Bool → List ℕ × ℕ
+abbrev pub withInput : List ℕ → List ℕ → Bool → List ℕ × ℕ
 withInput page name several = pick several (withLine (page, 0) (lineOf inputKey name)) (page, 0)

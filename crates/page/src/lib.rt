@@ -1,11 +1,14 @@
 // What the programs print: key=value lines, gathered on a lent page. Each function answers how far the page is filled.
 ghost use mathlib.Core.Path.{_≡_};
 ghost use mathlib.Core.List.{_++_};
-ghost use Prim.Native.Nat.{_+_, _-_, _≤_, _<_};
+ghost use Prim.Native.Nat.{_+_, _-_, _≤_};
 ghost use lib.ListN.{length, drop};
 ghost use lib.Dec.{leb};
-ghost use Rattle.machine.specs.Digits.{decimal};
-ghost use Rattle.page.specs.Lines.{lineOf, placed, withLine, withoutZeros, numberText, withAnswer, withInput};
+ghost use Rattle.machine.specs.Lists.{placed};
+ghost use Rattle.page.specs.Lines.{lineOf, withLine, withoutZeros, numberText, withAnswer, withInput};
+use field::bytes::part;
+use field::bytes::put;
+use field::numbers::digits_of;
 
 // Whether a line of that key and text has room.
 fn has_room(size: usize, at: usize, key: usize, text: usize) -> bool
@@ -20,26 +23,15 @@ fn has_room(size: usize, at: usize, key: usize, text: usize) -> bool
     text < size - at - key
 }
 
-fn put_bytes(page: &mut [u8], at: usize, text: &[u8]) -> usize
-    requires { ⌜ at + length (now text) ≤ length (now page) ⌝ }
-    ensures filled { λ r. ⌜ r ≡ at + length (now (text .entry)) ⌝ }
-    ensures bytes { λ _. ⌜ now (page .exit) ≡ placed (now (page .entry)) at (now (text .entry)) ⌝ }
-{
-    let mut i: usize = 0;
-    while i < text.len() {
-        page[at + i] = text[i];
-        i += 1;
-    }
-    at + i
-}
-
 fn put_both(page: &mut [u8], at: usize, key: &[u8], text: &[u8]) -> usize
     requires { ⌜ at + (length (now key) + length (now text)) ≤ length (now page) ⌝ }
     ensures filled { λ r. ⌜ r ≡ at + (length (now (key .entry)) + length (now (text .entry))) ⌝ }
     ensures bytes { λ _. ⌜ now (page .exit) ≡ placed (now (page .entry)) at (now (key .entry) ++ now (text .entry)) ⌝ }
 {
-    let a = put_bytes(page, at, key);
-    put_bytes(page, a, text)
+    put(key, at, page);
+    let a = at + key.len();
+    put(text, a, page);
+    a + text.len()
 }
 
 // A key and a text. A line that has no room is left out whole.
@@ -48,31 +40,10 @@ pub fn put_line(page: &mut [u8], at: usize, key: &[u8], text: &[u8]) -> usize
 {
     if has_room(page.len(), at, key.len(), text.len()) {
         let a = put_both(page, at, key, text);
-        return put_bytes(page, a, b"\n");
+        put(b"\n", a, page);
+        return a + 1;
     }
     at
-}
-
-fn digit(d: u64) -> u8
-    requires { ⌜ d < 10 ⌝ }
-    ensures { λ r. ⌜ r ≡ 48 + d ⌝ }
-{
-    48 + d as u8
-}
-
-// A number in the twenty digits that every number fits.
-fn digits_of(n: u64) -> [u8; 20]
-    ensures { λ r. ⌜ r ≡ decimal 20 n ⌝ }
-{
-    let mut digits = [48u8; 20];
-    let mut rest = n;
-    let mut i: usize = 20;
-    while 0 < i {
-        i -= 1;
-        digits[i] = digit(rest % 10);
-        rest = rest / 10;
-    }
-    digits
 }
 
 // How many zeros in front may be left out.
@@ -91,8 +62,7 @@ fn spare(least: usize) -> usize
 // How many of them there are.
 fn zeros(digits: &[u8], most: usize) -> usize
     requires { ⌜ most ≤ length (now digits) ⌝ }
-    ensures within { λ r. ⌜ r ≤ length (now (digits .entry)) ⌝ }
-    ensures rest { λ r. ⌜ drop r (now (digits .entry)) ≡ withoutZeros most (now (digits .entry)) ⌝ }
+    ensures { λ r. ⌜ drop r (now (digits .entry)) ≡ withoutZeros most (now (digits .entry)) ⌝ }
 {
     let mut z: usize = 0;
     while z < most {
@@ -104,35 +74,22 @@ fn zeros(digits: &[u8], most: usize) -> usize
     z
 }
 
-fn without_zeros(digits: &[u8], most: usize) -> &[u8]
-    requires { ⌜ most ≤ length (now digits) ⌝ }
-    ensures { λ r. ⌜ now r ≡ withoutZeros most (now (digits .entry)) ⌝ }
-{
-    let z = zeros(digits, most);
-    &digits[z..]
-}
-
 // A key and a number of at least so many digits.
 pub fn put_number(page: &mut [u8], at: usize, key: &[u8], n: u64, least: usize) -> usize
     ensures { λ r. ⌜ (now (page .exit), r) ≡ withLine (now (page .entry), at) (lineOf (now (key .entry)) (numberText least n)) ⌝ }
 {
     let digits = digits_of(n);
-    put_line(page, at, key, without_zeros(&digits, spare(least)))
-}
-
-fn wide(x: u8) -> u64
-    ensures { λ r. ⌜ r ≡ x ⌝ }
-{
-    x as u64
+    let z = zeros(&digits, spare(least));
+    put_line(page, at, key, part(&digits, z, 20))
 }
 
 // The three lines of an answer.
 pub fn put_answer(page: &mut [u8], at: usize, answer: u8, line: u64, column: u8) -> usize
     ensures { λ r. ⌜ (now (page .exit), r) ≡ withAnswer (now (page .entry), at) answer line column ⌝ }
 {
-    let a = put_number(page, at, b"answer=", wide(answer), 1);
+    let a = put_number(page, at, b"answer=", answer as u64, 1);
     let b = put_number(page, a, b"line=", line, 1);
-    put_number(page, b, b"column=", wide(column), 1)
+    put_number(page, b, b"column=", column as u64, 1)
 }
 
 // The name of an input at the start of a page, where there are several.

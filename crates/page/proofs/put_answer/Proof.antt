@@ -8,12 +8,10 @@ put-answer-spec =
     tie.close
     (tie.spec
     (λ c. search needs)  -- slice-aggregate-put-number
-    (λ c κs. search needs)  -- wide-requires
     (λ c κs. search needs)  -- put-number-requires
     (λ c. search needs)  -- slice-aggregate-put-number-2
     (λ c κs. search needs)  -- put-number-requires-2
     (λ c. search needs)  -- slice-aggregate-put-number-3
-    (λ c κs. search needs)  -- wide-requires-2
     (λ c κs. search needs)  -- put-number-requires-3
     (λ c. search needs)  -- same-length
     (λ c. search answers depth 20 fits 10000)  -- returns

@@ -1,3 +1,4 @@
+use borrow.Author.Needs.{needs}
 use Rattle.page.proofs.Placing.{boths}
 use Rattle.page.proofs.put_both.Statement.{statement}
 use Rattle.page.proofs.put_both.Tie as tie
@@ -6,8 +7,10 @@ pub put-both-spec : {M : Type 1} → statement M
 put-both-spec =
     tie.close
     (tie.spec
-    (λ c κs. search boths depth 20 fits 10000)  -- put-bytes-requires
-    (λ c κs. search boths depth 20 fits 10000)  -- put-bytes-requires-2
-    (λ c. search boths depth 20 fits 10000)  -- same-length
+    (λ c κs. search needs)  -- put-requires
+    (λ c. search needs)  -- add-a
+    (λ c κs. search needs)  -- put-requires-2
+    (λ c. search needs)  -- add-result
+    (λ c. search needs)  -- same-length
     (λ c. search boths depth 20 fits 10000)  -- returns
     )

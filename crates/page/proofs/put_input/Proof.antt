@@ -1,5 +1,5 @@
 use borrow.Author.Needs.{needs}
-use Rattle.page.proofs.Placing.{inputs}
+use Rattle.field.proofs.Picks.{picks}
 use Rattle.page.proofs.put_input.Statement.{statement}
 use Rattle.page.proofs.put_input.Tie as tie
 
@@ -10,6 +10,6 @@ put-input-spec =
     (λ c. search needs)  -- slice-aggregate-put-line
     (λ c κs. search needs)  -- put-line-requires
     (λ c. search needs)  -- same-length
-    (λ c. search inputs)  -- returns
-    (λ c. search inputs)  -- returns-2
+    (λ c. search picks depth 20 fits 10000)  -- returns
+    (λ c. search picks depth 20 fits 10000)  -- returns-2
     )

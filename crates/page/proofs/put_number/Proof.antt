@@ -1,3 +1,4 @@
+use borrow.Author.Needs.{needs}
 use Rattle.page.proofs.Spelling.{spells}
 use Rattle.page.proofs.put_number.Statement.{statement}
 use Rattle.page.proofs.put_number.Tie as tie
@@ -6,11 +7,13 @@ pub put-number-spec : {M : Type 1} → statement M
 put-number-spec =
     tie.close
     (tie.spec
-    (λ c κs. search spells depth 20 fits 10000)  -- digits-of-requires
-    (λ c. search spells depth 20 fits 10000)  -- slice-aggregate-without-zeros
-    (λ c κs. search spells depth 20 fits 10000)  -- spare-requires
-    (λ c κs. search spells depth 20 fits 10000)  -- without-zeros-requires
-    (λ c κs. search spells depth 20 fits 10000)  -- put-line-requires
-    (λ c. search spells depth 20 fits 10000)  -- same-length
+    (λ c κs. search needs)  -- digits-of-requires
+    (λ c. search needs)  -- slice-aggregate-zeros
+    (λ c κs. search needs)  -- spare-requires
+    (λ c κs. search needs)  -- zeros-requires
+    (λ c. search needs)  -- slice-aggregate-part
+    (λ c κs. search needs)  -- part-requires
+    (λ c κs. search needs)  -- put-line-requires
+    (λ c. search needs)  -- same-length
     (λ c. search spells depth 20 fits 10000)  -- returns
     )
