@@ -1,4 +1,3 @@
-pub mod Putting
 pub mod Merging
 pub mod Adding
 pub mod Lists

@@ -5,18 +5,16 @@ use mathlib.Core.List.{List, [], _∷_, _++_, append-assoc}
 use native.Mathlib.Omega.{arith}
 use borrow.Author.Tests.{lt-ltb}
 use lib.ListN.{length, take, drop, length-append}
-use lib.Seq.{take-at, drop-at, length-take-le, drop-append-add, drop-drop}
+use lib.Seq.{take-at, drop-at, drop-append-add, drop-drop}
 use Rattle.machine.specs.Lists.{pick, spaces}
 use Rattle.descriptions.specs.Texts.{textsIn, textsOf, joined, mergeOf, inPlaces, noTexts, merged, textFrom, withText}
 use Rattle.descriptions.proofs.Merging.{least-left}
+use Rattle.descriptions.proofs.Adding.{text-long}
 
 -- texts of 32 characters
 abbrev pub Full : List (List ℕ) → Type 0
 Full [] = Unit {0}
 Full (t ∷ ts) = (length t ≡ 32) × Full ts
-
-pub text-long : (t : List ℕ) → length (textFrom t) ≡ 32
-text-long t = length-take-le 32 (t ++ spaces 32) (omega (arith, length-append t (spaces 32)))
 
 pub full-more : (ts : List (List ℕ)) (t : List ℕ) → Full ts → Full (ts ++ (textFrom t ∷ []))
 full-more [] t h = (text-long t, tt)

@@ -7,11 +7,12 @@ use native.Mathlib.Omega.{arith}
 use borrow.Author.Needs.{needs}
 use borrow.Author.Tests.{le-leb, lt-leb, leb-true, leb-false}
 use lib.ListN.{length, take, drop, length-append}
-use lib.Seq.{paste, take-add, take-at, take-append-le, take-append-add, length-take-le, drop-append-add, drop-drop, take-all}
+use lib.Seq.{take-add, take-append-le, take-append-add, length-take-le, take-all}
 use lib.Dec.{leb}
 use mir.Val.{Fits}
 use mir.Syntax.{w64}
-use Rattle.machine.specs.Lists.{pick, spaces}
+use Rattle.machine.specs.Lists.{pick, spaces, placed, putIn}
+use Rattle.field.proofs.Putting.{placed-front, put-both}
 use Rattle.descriptions.specs.Texts.{least, textsIn, textsOf, joined, mergeOf, inPlaces, merged}
 use Rattle.descriptions.specs.declared.Descriptions.{Descriptions}
 
@@ -96,42 +97,33 @@ merged-texts f o {most} {n} {m} k p q =
     merge-texts (f .text) a (o .text) b most (leb a most) refl ∙ ap (λ c. textsIn c (f .text) ++ textsIn (least b (most - c)) (o .text)) u ∙ ap (λ c. textsIn n (f .text) ++ textsIn c (o .text)) v
 
 -- two parts put one after the other
-both-put : (room f o : List ℕ) (n m : ℕ) {x r : List ℕ} → n ≤ length f → x ≡ paste room 0 f n → r ≡ paste x n o m → r ≡ (take n f ++ take m o) ++ drop (n + m) room
-both-put room f o n m {x} {r} h u v =
-    let lf : length (take n f) ≡ n = length-take-le n f h in
-    let z : 0 + n ≡ n = omega arith in
-    let e : x ≡ take n f ++ drop n room = u ∙ ap (λ c. take n f ++ drop c room) z in
-    let s : take n x ≡ take n f = ap (take n) e ∙ take-at (take n f) (drop n room) n lf in
-    let d : drop (n + m) x ≡ drop (n + m) room
-    = ap (drop (n + m)) e ∙ ap (λ c. drop (c + m) (take n f ++ drop n room)) (sym lf) ∙ drop-append-add (take n f) (drop n room) m ∙ drop-drop m n room in
-    v ∙ ap₂ (λ y t. (y ++ take m o) ++ t) s d
+pub both-put : (f o : List ℕ) (n m : ℕ) {s t x r : List ℕ} → length f ≡ 128 → length o ≡ 128 → n + m ≤ 4 → s ≡ take (32 * n) f → t ≡ take (32 * m) o → x ≡ putIn (spaces 128) 0 s → r ≡ putIn x (32 * n) t
+    → r ≡ (take (32 * n) f ++ take (32 * m) o) ++ drop (32 * (n + m)) (spaces 128)
+both-put f o n m {s} {t} {x} {r} h i k a b u v =
+    let c : length s ≡ 32 * n = ap length a ∙ length-take-le (32 * n) f (omega arith) in
+    let d : length t ≡ 32 * m = ap length b ∙ length-take-le (32 * m) o (omega arith) in
+    let room : length (spaces 128) ≡ 128 = refl in
+    let e : r ≡ placed (spaces 128) 0 (s ++ t) = put-both (spaces 128) 0 s t (omega arith) u (v ∙ ap (λ y. putIn x y t) (omega arith)) in
+    let l : length (s ++ t) ≡ 32 * (n + m) = length-append s t ∙ omega arith in
+    e ∙ placed-front (spaces 128) (s ++ t) ∙ ap₂ (λ y z. y ++ drop z (spaces 128)) (ap₂ _++_ a b) l
 
-pub merge-is : (f o : Descriptions) (limit : ℕ) {most n m : ℕ} {x r : List ℕ} → length (f .text) ≡ 128 → most ≡ least limit 4 → n ≡ least (f .count) most → m ≡ least (o .count) (most - n)
-    → x ≡ paste (spaces 128) 0 (f .text) (32 * n) → r ≡ paste x (32 * n) (o .text) (32 * m) → _≡_ {A = Descriptions} (record { text = r; count = n + m }) (merged f o limit)
-unfolding merged
-merge-is f o limit {most} {n} {m} {x} {r} h w p q u v =
-    let k : most ≤ 4 = least-le limit 4 w in
-    let nl : n ≤ most = least-le (f .count) most p in
-    let g : mergeOf most (textsOf f) (textsOf o) ≡ textsIn n (f .text) ++ textsIn m (o .text) = merged-texts f o k p q in
-    let j : joined (textsIn n (f .text) ++ textsIn m (o .text)) ≡ take (32 * n) (f .text) ++ take (32 * m) (o .text)
-    = join-append (textsIn n (f .text)) (textsIn m (o .text)) ∙ ap₂ _++_ (join-texts n (f .text)) (join-texts m (o .text)) in
-    let l : length (textsIn n (f .text) ++ textsIn m (o .text)) ≡ n + m = length-append (textsIn n (f .text)) (textsIn m (o .text)) ∙ ap₂ _+_ (texts-long n (f .text)) (texts-long m (o .text)) in
-    let c : 32 * n + 32 * m ≡ 32 * (n + m) = omega arith in
-    let e : r ≡ (take (32 * n) (f .text) ++ take (32 * m) (o .text)) ++ drop (32 * (n + m)) (spaces 128)
-    = both-put (spaces 128) (f .text) (o .text) (32 * n) (32 * m) (omega arith) u v ∙ ap (λ b. (take (32 * n) (f .text) ++ take (32 * m) (o .text)) ++ drop b (spaces 128)) c in
-    let put : _≡_ {A = Descriptions} (record { text = r; count = n + m }) (inPlaces (spaces 128) (textsIn n (f .text) ++ textsIn m (o .text)))
-    = ap₂ (λ t b. record { text = t; count = b }) (e ∙ sym (ap₂ (λ y b. y ++ drop (32 * b) (spaces 128)) j l)) (sym l) in
-    put ∙ ap (inPlaces (spaces 128)) (sym g) ∙ ap (λ b. inPlaces (spaces 128) (mergeOf b (textsOf f) (textsOf o))) w
+pub ruleset boths = (both-put, needs)
 
--- ## What fits
+module _ (f o : Descriptions) (limit : ℕ) {most n m : ℕ} (w : most ≡ least limit 4) (p : n ≡ least (f .count) most) (q : m ≡ least (o .count) (most - n)) where
+  pub four-at-most : n + m ≤ 4
+  four-at-most = let k = least-le limit 4 w in let l = least-le (f .count) most p in let u = least-le (o .count) (most - n) q in omega arith
 
-pub first-in : (a limit : ℕ) {most n : ℕ} → most ≡ least limit 4 → n ≡ least a most → 0 + n ≤ 4
-first-in a limit {most} w e = let k = least-le limit 4 w in let l = least-le a most e in omega arith
+  pub count-fits : Fits w64 (n + m)
+  count-fits = let k = four-at-most in omega arith
 
-pub rest-in : (a b limit : ℕ) {most n m : ℕ} → most ≡ least limit 4 → n ≡ least a most → m ≡ least b (most - n) → n + m ≤ 4
-rest-in a b limit {most} {n} w e g = let k = least-le limit 4 w in let l = least-le a most e in let u = least-le b (most - n) g in omega arith
+  pub merge-is : {r : List ℕ} → r ≡ (take (32 * n) (f .text) ++ take (32 * m) (o .text)) ++ drop (32 * (n + m)) (spaces 128) → _≡_ {A = Descriptions} (record { text = r; count = n + m }) (merged f o limit)
+  unfolding merged
+  merge-is {r} e =
+      let ts : List (List ℕ) = textsIn n (f .text) ++ textsIn m (o .text) in
+      let j : joined ts ≡ take (32 * n) (f .text) ++ take (32 * m) (o .text) = join-append (textsIn n (f .text)) (textsIn m (o .text)) ∙ ap₂ _++_ (join-texts n (f .text)) (join-texts m (o .text)) in
+      let l : length ts ≡ n + m = length-append (textsIn n (f .text)) (textsIn m (o .text)) ∙ ap₂ _+_ (texts-long n (f .text)) (texts-long m (o .text)) in
+      let put : _≡_ {A = Descriptions} (record { text = r; count = n + m }) (inPlaces (spaces 128) ts)
+      = ap₂ (λ t b. record { text = t; count = b }) (e ∙ sym (ap₂ (λ y b. y ++ drop (32 * b) (spaces 128)) j l)) (sym l) in
+      put ∙ ap (inPlaces (spaces 128)) (sym (merged-texts f o (least-le limit 4 w) p q)) ∙ ap (λ b. inPlaces (spaces 128) (mergeOf b (textsOf f) (textsOf o))) w
 
-pub count-fits : (a b limit : ℕ) {most n m : ℕ} → most ≡ least limit 4 → n ≡ least a most → m ≡ least b (most - n) → Fits w64 (n + m)
-count-fits a b limit w e g = let k = rest-in a b limit w e g in omega arith
-
-pub ruleset merges = (least-le, merge-is, first-in, rest-in, count-fits, needs)
+pub ruleset merges = (least-le, four-at-most, count-fits, merge-is, needs)

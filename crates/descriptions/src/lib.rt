@@ -1,10 +1,12 @@
 // Descriptions: up to four texts of 32 characters each; fixed, an item's own, and both merged.
 ghost use mathlib.Core.Path.{_≡_};
+ghost use mathlib.Core.List.{_++_};
 ghost use Prim.Native.Nat.{_+_, _*_, _≤_};
-ghost use lib.ListN.{length};
-ghost use lib.Seq.{paste};
+ghost use lib.ListN.{take, drop};
+ghost use Rattle.machine.specs.Lists.{spaces};
 ghost use Rattle.descriptions.specs.Texts.{least, limitFor, noTexts, merged, withText};
 use field::bytes::part;
+use field::bytes::put;
 
 // Four places of 32 characters, of which the first so many are used.
 pub struct Descriptions {
@@ -31,27 +33,17 @@ fn least_of(a: u64, b: u64) -> u64
     b
 }
 
-fn put_bytes(into: [u8; 128], at: usize, text: &[u8]) -> [u8; 128]
-    requires { ⌜ at + length (now text) ≤ 128 ⌝ }
-    ensures { λ r. ⌜ r ≡ paste into at (now (text .entry)) (length (now (text .entry))) ⌝ }
+// The first texts of one, then the first of the other, and spaces.
+fn texts_of_both(before: [u8; 128], first: u64, after: [u8; 128], rest: u64) -> [u8; 128]
+    requires { ⌜ first + rest ≤ 4 ⌝ }
+    ensures { λ r. ⌜ r ≡ (take (32 * first) before ++ take (32 * rest) after) ++ drop (32 * (first + rest)) (spaces 128) ⌝ }
 {
-    let mut l = into;
-    let mut i: usize = 0;
-    while i < text.len() {
-        l[at + i] = text[i];
-        i += 1;
-    }
-    l
-}
-
-// The first n texts of one into the places of the other, from a place on.
-fn put_texts(into: [u8; 128], at: u64, from: [u8; 128], n: u64) -> [u8; 128]
-    requires { ⌜ at + n ≤ 4 ⌝ }
-    ensures { λ r. ⌜ r ≡ paste into (32 * at) from (32 * n) ⌝ }
-{
-    let start = 32 * at;
-    let width = 32 * n;
-    put_bytes(into, start as usize, part(&from, 0, width as usize))
+    let mut text = [32u8; 128];
+    let start = 32 * first;
+    let width = 32 * rest;
+    put(part(&before, 0, start as usize), 0, &mut text);
+    put(part(&after, 0, width as usize), start as usize, &mut text);
+    text
 }
 
 // The fixed ones and then the item's own, cut to the first so many; unused places are spaces.
@@ -63,8 +55,7 @@ pub fn merge(fixed: Descriptions, own: Descriptions, limit: u64) -> Descriptions
     let rest = least_of(own.count, most - first);
     let before = fixed.text;
     let after = own.text;
-    let started = put_texts([32u8; 128], 0, before, first);
-    let text = put_texts(started, first, after, rest);
+    let text = texts_of_both(before, first, after, rest);
     let count = first + rest;
     Descriptions { text, count }
 }
@@ -85,10 +76,12 @@ impl Descriptions {
     {
         let count = self.count;
         if count < 4 {
-            let before = self.text;
-            let blank = put_texts(before, count, [32u8; 128], 1);
+            let mut filled = [32u8; 32];
+            put(part(text, 0, 32), 0, &mut filled);
             let start = 32 * count;
-            let after = put_bytes(blank, start as usize, part(text, 0, 32));
+            let before = self.text;
+            let mut after = before;
+            put(&filled, start as usize, &mut after);
             let next = count + 1;
             return Descriptions {
                 text: after,

@@ -1,7 +1,7 @@
 -- A text put at a place of a room. Assumes nothing.
 use Prim.Native.Nat.{ℕ, _+_, _-_, _≤_, _<_}
 use mathlib.Core.Path.{_≡_, refl, sym, ap, ap₂, _∙_}
-use mathlib.Core.List.{List, [], _∷_, _++_, append-assoc}
+use mathlib.Core.List.{List, _++_, append-assoc}
 use native.Mathlib.Omega.{arith}
 use native.Mathlib.Numerals.{add-one}
 use borrow.Author.Needs.{needs}
@@ -93,3 +93,12 @@ placed-both d at s t h =
     let r : drop (at + length s + length t) (placed d at s) ≡ drop (at + length (s ++ t)) d
     = sym (drop-drop (length t) (at + length s) (placed d at s)) ∙ ap (drop (length t)) g ∙ drop-drop (length t) (at + length s) d ∙ ap (λ n. drop n d) q in
     ap₂ (λ x y. (x ++ t) ++ y) f r ∙ ap (λ x. x ++ drop (at + length (s ++ t)) d) (append-assoc (take at d) s t)
+
+-- a text after another that stands
+pub put-next : {p o : List ℕ} (room : List ℕ) (at : ℕ) (s t : List ℕ) → at + (length s + length t) ≤ length room → p ≡ placed room at s → o ≡ putIn p (at + length s) t → o ≡ placed room at (s ++ t)
+put-next {p} room at s t h e f =
+    let k : length p ≡ length room = ap length e ∙ length-placed room at s (omega arith) in
+    put-fits p (at + length s) t (omega arith) f ∙ ap (λ u. placed u (at + length s) t) e ∙ placed-both room at s t (omega arith)
+
+pub put-both : {p o : List ℕ} (room : List ℕ) (at : ℕ) (s t : List ℕ) → at + (length s + length t) ≤ length room → p ≡ putIn room at s → o ≡ putIn p (at + length s) t → o ≡ placed room at (s ++ t)
+put-both room at s t h e = put-next room at s t h (put-fits room at s (omega arith) e)

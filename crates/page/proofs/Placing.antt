@@ -11,7 +11,7 @@ use lib.Dec.{leb, ltb}
 use mir.Val.{Fits}
 use mir.Syntax.{w64}
 use Rattle.machine.specs.Lists.{pick, placed, putIn}
-use Rattle.field.proofs.Putting.{put-fits, length-placed, placed-both}
+use Rattle.field.proofs.Putting.{put-next}
 use Rattle.page.specs.Lines.{lineOf, withLine}
 
 -- ## Room
@@ -33,18 +33,6 @@ module _ (size at key text : ℕ) where
 pub ruleset rooms = (room-none, room-key, room-text, needs)
 
 -- ## A line
-
--- a text after another that stands
-next : {p o : List ℕ} (room : List ℕ) (at : ℕ) (s t : List ℕ) → at + (length s + length t) ≤ length room → p ≡ placed room at s → o ≡ putIn p (at + length s) t → o ≡ placed room at (s ++ t)
-next {p} room at s t h e f =
-    let k : length p ≡ length room = ap length e ∙ length-placed room at s (omega arith) in
-    put-fits p (at + length s) t (omega arith) f ∙ ap (λ u. placed u (at + length s) t) e ∙ placed-both room at s t (omega arith)
-
-pub both-put : {p o : List ℕ} (page : List ℕ) (at : ℕ) (key text : List ℕ) → at + (length key + length text) ≤ length page → p ≡ putIn page at key → o ≡ putIn p (at + length key) text
-    → o ≡ placed page at (key ++ text)
-both-put page at key text h e = next page at key text h (put-fits page at key (omega arith) e)
-
-pub ruleset boths = (both-put, needs)
 
 module _ {r : Bool} (page : List ℕ) (at : ℕ) (key text : List ℕ) (e : r ≡ leb (at + (length key + (length text + 1))) (length page)) where
   size : length (lineOf key text) ≡ length key + (length text + 1)
@@ -71,7 +59,7 @@ module _ {r : Bool} (page : List ℕ) (at : ℕ) (key text : List ℕ) (e : r �
       let n = length-append key text in
       let z : a ≡ at + length (key ++ text) = omega arith in
       let g : l ≡ placed page at (lineOf key text)
-      = next page at (key ++ text) (10 ∷ []) (omega arith) d (x ∙ ap (λ m. putIn p m (10 ∷ [])) z) ∙ ap (placed page at) (append-assoc key text (10 ∷ [])) in
+      = put-next page at (key ++ text) (10 ∷ []) (omega arith) d (x ∙ ap (λ m. putIn p m (10 ∷ [])) z) ∙ ap (placed page at) (append-assoc key text (10 ∷ [])) in
       let w : a + 1 ≡ at + length (lineOf key text) = omega arith in
       ap₂ (λ u v. (u, v)) g w ∙ rw (s, ← e, h) refl
 

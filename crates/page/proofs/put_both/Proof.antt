@@ -1,5 +1,5 @@
 use borrow.Author.Needs.{needs}
-use Rattle.page.proofs.Placing.{boths}
+use Rattle.field.proofs.Putting.{put-both}
 use Rattle.page.proofs.put_both.Statement.{statement}
 use Rattle.page.proofs.put_both.Tie as tie
 
@@ -12,5 +12,5 @@ put-both-spec =
     (λ c κs. search needs)  -- put-requires-2
     (λ c. search needs)  -- add-result
     (λ c. search needs)  -- same-length
-    (λ c. search boths depth 20 fits 10000)  -- returns
+    (λ c. search (put-both, needs) depth 20 fits 10000)  -- returns
     )
