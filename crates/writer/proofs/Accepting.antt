@@ -9,8 +9,8 @@ use borrow.Author.Tests.{leb-true, eqb-true, eq-eqb}
 use lib.ListN.{length, getD, take, drop, take-append-drop, length-drop}
 use lib.Seq.{take-all, take-add, take-take, drop-cons, drop-drop, length-take-le}
 use lib.Dec.{T, eqb, leb}
-use Rattle.machine.specs.Lists.{pick, same}
-use Rattle.machine.proofs.Base.{and-first, and-second, true≢false, of-eq, same→eq}
+use Rattle.machine.specs.Lists.{pick}
+use Rattle.machine.proofs.Base.{and-first, and-second, true≢false, of-eq}
 use Rattle.format.specs.Fields.{Field, width, widths, writeFields, Fits}
 use Rattle.format.specs.Records.{layout, code, Fields}
 use Rattle.format.specs.Tests.{Test, test, Tests, groupTests}
@@ -23,15 +23,14 @@ use Rattle.format.proofs.Checks.{Hold, Holds, read-field}
 use Rattle.format.proofs.Link.{line-widths}
 use Rattle.field.specs.Rows.{Row, cut, firstNo, fieldNo, rowsAt, checkRows, fieldsAt, firstOr}
 use Rattle.field.proofs.Numerics.{Numbered}
-use Rattle.record.specs.Kinds.{codeOf, debitCode, batchCode, fileCode}
+use Rattle.record.specs.Kinds.{codeOf}
 use Rattle.record.specs.Faults.{faultAt, noFault, firstFault, fieldsOf, groupSaid, testsFor, maximaFor, faultOf}
 use Rattle.record.specs.Read.{recordFor, textFor}
 use Rattle.record.specs.declared.Batch.{Batch}
 use Rattle.record.specs.declared.Fault.{Fault}
 use Rattle.record.proofs.Reading.{is-formed}
 use Rattle.record.proofs.Coding.{code-is}
-use Rattle.reading.specs.State.{within}
-use Rattle.reading.specs.Step.{nextFor, refused, judgedLine, isWhole, isDone, judgedFirst, readBy, stepAt}
+use Rattle.reading.specs.Step.{nextFor, isWhole, judgedFirst, readBy, stepAt}
 use Rattle.reading.specs.declared.State.{State}
 use Rattle.reading.specs.declared.Judged.{Judged}
 use Rattle.reading.specs.declared.LineRead.{LineRead}

@@ -8,9 +8,10 @@ use borrow.Author.Needs.{needs}
 use lib.ListN.{length, take, drop, length-append, length-replicate, drop-of-length-le}
 use lib.Seq.{take-all, take-at, drop-at, drop-append-add, length-take-le}
 use lib.Dec.{ltb}
-use Rattle.machine.specs.Lists.{pick, all, isSpace, spaces}
+use Rattle.machine.specs.Lists.{pick, all, isSpace, spaces, placed, putIn}
 use Rattle.machine.specs.Digits.{pow10, decimal}
 use Rattle.machine.proofs.Digits.{length-decimal}
+use Rattle.field.proofs.Putting.{put-fits}
 use Rattle.format.specs.Fields.{filled, filler}
 use Rattle.format.specs.Records.{layout, code}
 use Rattle.format.specs.Rules.{CLIEOP03, EUR, groupText, typeText}
@@ -21,11 +22,11 @@ use Rattle.format.specs.declared.TransactionType.the-variants.{UncheckedCredito
 use Rattle.format.specs.declared.Kind.the-variants as kinds
 use Rattle.record.specs.declared.Transaction.{Transaction}
 use Rattle.reading.specs.declared.State.{State}
-use Rattle.writer.specs.Encoding.{splice, unfit, numberIn, textIn, blankIn, lineEnd, encodedLine, testText}
-use Rattle.writer.specs.Entries.{fileHeaderGiven, headerStart, batchHeaderLine, orderingPartyGiven, itemGiven, batchTrailerGiven, kindOf, givenFor, lineFor}
+use Rattle.writer.specs.Encoding.{unfit, numberIn, textIn, blankIn, lineEnd, encodedLine, testText}
+use Rattle.writer.specs.Entries.{fileHeaderGiven, orderingPartyGiven, itemGiven, batchTrailerGiven, kindOf, givenFor, lineFor}
+use Rattle.writer.specs.Inner.{headerStart, batchHeaderLine}
 use Rattle.writer.specs.declared.Entry.{Entry}
 use Rattle.writer.specs.declared.Entry.the-variants.{BatchHeader}
-use Rattle.writer.proofs.Putting.{splice-is}
 
 -- ## How long a field is
 
@@ -91,21 +92,25 @@ record Built (l d : List ℕ) (a n : ℕ) : Type 0 where
   long : length d ≡ a
 
 module _ {l d m : List ℕ} (w n a : ℕ) (b : Built l d a (w + n)) where
-  field : (t : List ℕ) → length t ≡ w → m ≡ splice l a t → Built m (d ++ t) (a + w) n
-  field t h e = record {
-    is =
-        e ∙ ap (λ z. splice z a t) (b .is) ∙ splice-is (d ++ (spaces (w + n) ++ lineEnd)) a t w h
-        ∙ ap₂ (λ x y. (x ++ t) ++ y) (take-at d (spaces (w + n) ++ lineEnd) a (b .long))
-        (ap (λ c. drop (c + w) (d ++ (spaces (w + n) ++ lineEnd))) (sym (b .long)) ∙ drop-append-add d (spaces (w + n) ++ lineEnd) w
-        ∙ ap (drop w) (split-end w n) ∙ drop-at (spaces w) (spaces n ++ lineEnd) w (length-replicate w 32));
-    long = length-append d t ∙ ap₂ _+_ (b .long) h;
-  }
+  field : (t : List ℕ) → length t ≡ w → m ≡ putIn l a t → Built m (d ++ t) (a + w) n
+  unfolding placed
+  field t h e =
+      let s : List ℕ = spaces (w + n) ++ lineEnd in
+      let f : a + length t ≤ length (d ++ s) = simp (length-append, length-replicate) (omega (arith, b .long)) in
+      let q : a + length t ≡ length d + w = omega (arith, b .long) in
+      record {
+        is =
+            put-fits (d ++ s) a t f (e ∙ ap (λ z. putIn z a t) (b .is))
+            ∙ ap₂ (λ x y. (x ++ t) ++ y) (take-at d s a (b .long))
+            (ap (λ c. drop c (d ++ s)) q ∙ drop-append-add d s w ∙ ap (drop w) (split-end w n) ∙ drop-at (spaces w) (spaces n ++ lineEnd) w (length-replicate w 32));
+        long = length-append d t ∙ ap₂ _+_ (b .long) h;
+      }
 
-  blank : (t : List ℕ) → w ≤ 45 → m ≡ pick (all isSpace t) l (splice l a (unfit w)) → Built m (d ++ blankIn w t) (a + w) n
+  blank : (t : List ℕ) → w ≤ 45 → m ≡ pick (all isSpace t) l (putIn l a (unfit w)) → Built m (d ++ blankIn w t) (a + w) n
   unfolding blankIn pick
   blank t h = by (all isSpace t)
     where
-      by : (q : Bool) → m ≡ pick q l (splice l a (unfit w)) → Built m (d ++ pick q (spaces w) (unfit w)) (a + w) n
+      by : (q : Bool) → m ≡ pick q l (putIn l a (unfit w)) → Built m (d ++ pick q (spaces w) (unfit w)) (a + w) n
       by true e = record {
         is = e ∙ b .is ∙ ap (λ t. d ++ t) (split-end w n) ∙ sym (append-assoc d (spaces w) (spaces n ++ lineEnd));
         long = length-append d (spaces w) ∙ ap₂ _+_ (b .long) (length-replicate w 32);
@@ -115,27 +120,27 @@ module _ {l d m : List ℕ} (w n a : ℕ) (b : Built l d a (w + n)) where
 start : (c : List ℕ) {l : List ℕ} → length c ≡ 5 → l ≡ c ++ (spaces 45 ++ lineEnd) → Built l c 5 45
 start c h e = record { is = e; long = h }
 
-pub code-put : {l x : List ℕ} (c : List ℕ) → length c ≡ 5 → l ≡ spaces 50 ++ lineEnd → x ≡ splice l 0 c → x ≡ c ++ (spaces 45 ++ lineEnd)
+pub code-put : {l x : List ℕ} (c : List ℕ) → length c ≡ 5 → l ≡ spaces 50 ++ lineEnd → x ≡ putIn l 0 c → x ≡ c ++ (spaces 45 ++ lineEnd)
 code-put {l} c h f e = let b : Built l [] 0 (5 + 45) = record { is = f; long = refl } in field 5 45 0 b c h e .is
 
 -- ## The kinds
 
 -- a number, or a text that is its field
 module _ {l d m : List ℕ} (w n a : ℕ) (b : Built l d a (w + n)) where
-  number : (v : ℕ) → w ≤ 45 → m ≡ splice l a (numberIn w v) → Built m (d ++ numberIn w v) (a + w) n
+  number : (v : ℕ) → w ≤ 45 → m ≡ putIn l a (numberIn w v) → Built m (d ++ numberIn w v) (a + w) n
   number v h e = field w n a b (numberIn w v) (number-long w v h) e
 
-  fixed : (t : List ℕ) → length t ≡ w → m ≡ splice l a t → Built m (d ++ textIn w t) (a + w) n
+  fixed : (t : List ℕ) → length t ≡ w → m ≡ putIn l a t → Built m (d ++ textIn w t) (a + w) n
   fixed t h e = let q = exact w t h in subst (λ y. Built m (d ++ y) (a + w) n) (sym q) (field w n a b t h e)
 
-  given : (t : List ℕ) → w ≤ 45 → w ≤ length t → m ≡ splice l a (textIn w t) → Built m (d ++ textIn w t) (a + w) n
+  given : (t : List ℕ) → w ≤ 45 → w ≤ length t → m ≡ putIn l a (textIn w t) → Built m (d ++ textIn w t) (a + w) n
   given t h k e = field w n a b (textIn w t) (text-long w t h k) e
 
 abbrev coded : List ℕ → List ℕ
 coded c = c ++ (spaces 45 ++ lineEnd)
 
-pub file-header-is : (x y z : ℕ) (t : List ℕ) {a b c d e r : List ℕ} → length t ≡ 35 → a ≡ coded (code kinds.FileHeader) → b ≡ splice a 5 (numberIn 6 x) → c ≡ splice b 11 CLIEOP03
-    → d ≡ splice c 19 (textIn 5 t) → e ≡ splice d 24 (numberIn 4 y) → r ≡ splice e 28 (numberIn 1 z) → r ≡ encodedLine (code kinds.FileHeader) (layout kinds.FileHeader) (fileHeaderGiven x y z t)
+pub file-header-is : (x y z : ℕ) (t : List ℕ) {a b c d e r : List ℕ} → length t ≡ 35 → a ≡ coded (code kinds.FileHeader) → b ≡ putIn a 5 (numberIn 6 x) → c ≡ putIn b 11 CLIEOP03
+    → d ≡ putIn c 19 (textIn 5 t) → e ≡ putIn d 24 (numberIn 4 y) → r ≡ putIn e 28 (numberIn 1 z) → r ≡ encodedLine (code kinds.FileHeader) (layout kinds.FileHeader) (fileHeaderGiven x y z t)
 unfolding encodedLine blankIn pick
 file-header-is x y z t h p q u v w m =
     let b1 = number 6 39 5 (start (code kinds.FileHeader) refl p) x (omega arith) q in
@@ -145,7 +150,7 @@ file-header-is x y z t h p q u v w m =
     let b5 = number 1 21 28 b4 z (omega arith) m in
     b5 .is ∙ simp append-assoc
 
-pub header-start : (g : Group) (x y : ℕ) (l : List ℕ) {a b c r : List ℕ} → a ≡ splice l 5 (groupText g) → b ≡ splice a 7 (numberIn 10 x) → c ≡ splice b 17 (numberIn 4 y) → r ≡ splice c 21 EUR → r ≡ headerStart l g x y
+pub header-start : (g : Group) (x y : ℕ) (l : List ℕ) {a b c r : List ℕ} → a ≡ putIn l 5 (groupText g) → b ≡ putIn a 7 (numberIn 10 x) → c ≡ putIn b 17 (numberIn 4 y) → r ≡ putIn c 21 EUR → r ≡ headerStart l g x y
 header-start g x y l p q u v = v ∙ rw (u, q, p)
 
 header-built : (c : List ℕ) (g : Group) (x y : ℕ) {l r : List ℕ} → length c ≡ 5 → l ≡ coded c → r ≡ headerStart l g x y → Built r ((((c ++ textIn 2 (groupText g)) ++ numberIn 10 x) ++ numberIn 4 y) ++ textIn 3 EUR) 24 26
@@ -155,16 +160,16 @@ header-built c g x y h p q =
     let b3 = number 4 29 17 b2 y (omega arith) refl in
     fixed 3 26 21 b3 EUR refl q
 
-pub identified-is : {b : Bool} (g : Group) (x y : ℕ) (t : List ℕ) {a c r : List ℕ} → b ≡ true → length t ≡ 35 → a ≡ coded (code kinds.BatchHeaderC) → c ≡ headerStart a g x y → r ≡ splice c 24 (textIn 16 t) → r ≡ batchHeaderLine b g x y t
+pub identified-is : {b : Bool} (g : Group) (x y : ℕ) (t : List ℕ) {a c r : List ℕ} → b ≡ true → length t ≡ 35 → a ≡ coded (code kinds.BatchHeaderC) → c ≡ headerStart a g x y → r ≡ putIn c 24 (textIn 16 t) → r ≡ batchHeaderLine b g x y t
 unfolding encodedLine blankIn pick
 identified-is g x y t i h p q u = given 16 10 24 (header-built (code kinds.BatchHeaderC) g x y refl p q) t (omega arith) (omega arith) u .is ∙ rw i (simp append-assoc)
 
-pub unidentified-is : {b : Bool} (g : Group) (x y : ℕ) (t : List ℕ) {a c r : List ℕ} → b ≡ false → a ≡ coded (code kinds.BatchHeaderB) → c ≡ headerStart a g x y → r ≡ pick (all isSpace t) c (splice c 24 (unfit 16)) → r ≡ batchHeaderLine b g x y t
+pub unidentified-is : {b : Bool} (g : Group) (x y : ℕ) (t : List ℕ) {a c r : List ℕ} → b ≡ false → a ≡ coded (code kinds.BatchHeaderB) → c ≡ headerStart a g x y → r ≡ pick (all isSpace t) c (putIn c 24 (unfit 16)) → r ≡ batchHeaderLine b g x y t
 unfolding encodedLine blankIn pick
 unidentified-is g x y t i p q u = blank 16 10 24 (header-built (code kinds.BatchHeaderB) g x y refl p q) t (omega arith) u .is ∙ rw i (simp append-assoc)
 
-pub ordering-party-is : (x y : ℕ) (o : Bool) (t : List ℕ) {a b c d r : List ℕ} → length t ≡ 35 → a ≡ coded (code kinds.OrderingParty) → b ≡ splice a 5 (numberIn 1 x) → c ≡ splice b 6 (numberIn 6 y)
-    → d ≡ splice c 12 (textIn 35 t) → r ≡ splice d 47 (testText o) → r ≡ encodedLine (code kinds.OrderingParty) (layout kinds.OrderingParty) (orderingPartyGiven x y o t)
+pub ordering-party-is : (x y : ℕ) (o : Bool) (t : List ℕ) {a b c d r : List ℕ} → length t ≡ 35 → a ≡ coded (code kinds.OrderingParty) → b ≡ putIn a 5 (numberIn 1 x) → c ≡ putIn b 6 (numberIn 6 y)
+    → d ≡ putIn c 12 (textIn 35 t) → r ≡ putIn d 47 (testText o) → r ≡ encodedLine (code kinds.OrderingParty) (layout kinds.OrderingParty) (orderingPartyGiven x y o t)
 unfolding encodedLine blankIn pick
 ordering-party-is x y o t h p q u v w =
     let b1 = number 1 44 5 (start (code kinds.OrderingParty) refl p) x (omega arith) q in
@@ -173,8 +178,8 @@ ordering-party-is x y o t h p q u v w =
     let b4 = fixed 1 2 47 b3 (testText o) (test-long o) w in
     b4 .is ∙ simp append-assoc
 
-pub item-is : (x : Transaction) (t : List ℕ) {a b c d e r : List ℕ} → a ≡ coded (code kinds.Transaction) → b ≡ splice a 5 (typeText (x .kind)) → c ≡ splice b 9 (numberIn 12 (x .amount))
-    → d ≡ splice c 21 (numberIn 10 (x .payer)) → e ≡ splice d 31 (numberIn 10 (x .beneficiary)) → r ≡ pick (all isSpace t) e (splice e 41 (unfit 9)) → r ≡ encodedLine (code kinds.Transaction) (layout kinds.Transaction) (itemGiven x t)
+pub item-is : (x : Transaction) (t : List ℕ) {a b c d e r : List ℕ} → a ≡ coded (code kinds.Transaction) → b ≡ putIn a 5 (typeText (x .kind)) → c ≡ putIn b 9 (numberIn 12 (x .amount))
+    → d ≡ putIn c 21 (numberIn 10 (x .payer)) → e ≡ putIn d 31 (numberIn 10 (x .beneficiary)) → r ≡ pick (all isSpace t) e (putIn e 41 (unfit 9)) → r ≡ encodedLine (code kinds.Transaction) (layout kinds.Transaction) (itemGiven x t)
 unfolding encodedLine
 item-is x t p q u v w m =
     let b1 = fixed 4 41 5 (start (code kinds.Transaction) refl p) (typeText (x .kind)) (type-long (x .kind)) q in
@@ -184,15 +189,15 @@ item-is x t p q u v w m =
     let b5 = blank 9 0 41 b4 t (omega arith) m in
     b5 .is ∙ simp (append-assoc, append-nil)
 
-pub text-line-is : (c : List ℕ) (w : ℕ) (t : List ℕ) {a r : List ℕ} → length t ≡ 35 → length c ≡ 5 → w ≤ 35 → a ≡ coded c → r ≡ splice a 5 (textIn w t) → r ≡ encodedLine c (filled w ∷ filler (45 - w) ∷ []) (t, ([], tt))
+pub text-line-is : (c : List ℕ) (w : ℕ) (t : List ℕ) {a r : List ℕ} → length t ≡ 35 → length c ≡ 5 → w ≤ 35 → a ≡ coded c → r ≡ putIn a 5 (textIn w t) → r ≡ encodedLine c (filled w ∷ filler (45 - w) ∷ []) (t, ([], tt))
 unfolding encodedLine blankIn pick
 text-line-is c w t {a} h n o p q =
     let z : 45 ≡ w + (45 - w) = omega arith in
     let b1 = given w (45 - w) 5 (subst (Built a c 5) z (start c n p)) t (omega arith) (omega arith) q in
     b1 .is ∙ simp (append-assoc, append-nil)
 
-pub batch-trailer-is : (x y z : ℕ) (t : List ℕ) {a b c d r : List ℕ} → a ≡ coded (code kinds.BatchTrailer) → b ≡ splice a 5 (numberIn 18 x) → c ≡ splice b 23 (numberIn 10 y) → d ≡ splice c 33 (numberIn 7 z)
-    → r ≡ pick (all isSpace t) d (splice d 40 (unfit 10)) → r ≡ encodedLine (code kinds.BatchTrailer) (layout kinds.BatchTrailer) (batchTrailerGiven x y z t)
+pub batch-trailer-is : (x y z : ℕ) (t : List ℕ) {a b c d r : List ℕ} → a ≡ coded (code kinds.BatchTrailer) → b ≡ putIn a 5 (numberIn 18 x) → c ≡ putIn b 23 (numberIn 10 y) → d ≡ putIn c 33 (numberIn 7 z)
+    → r ≡ pick (all isSpace t) d (putIn d 40 (unfit 10)) → r ≡ encodedLine (code kinds.BatchTrailer) (layout kinds.BatchTrailer) (batchTrailerGiven x y z t)
 unfolding encodedLine
 batch-trailer-is x y z t p q u v w =
     let b1 = number 18 27 5 (start (code kinds.BatchTrailer) refl p) x (omega arith) q in
@@ -201,14 +206,11 @@ batch-trailer-is x y z t p q u v w =
     let b4 = blank 10 0 40 b3 t (omega arith) w in
     b4 .is ∙ simp (append-assoc, append-nil)
 
-pub file-trailer-is : (t : List ℕ) {a r : List ℕ} → a ≡ coded (code kinds.FileTrailer) → r ≡ pick (all isSpace t) a (splice a 5 (unfit 45)) → r ≡ encodedLine (code kinds.FileTrailer) (layout kinds.FileTrailer) (t, tt)
+pub file-trailer-is : (t : List ℕ) {a r : List ℕ} → a ≡ coded (code kinds.FileTrailer) → r ≡ pick (all isSpace t) a (putIn a 5 (unfit 45)) → r ≡ encodedLine (code kinds.FileTrailer) (layout kinds.FileTrailer) (t, tt)
 unfolding encodedLine
 file-trailer-is t p q = let b1 = blank 45 0 5 (start (code kinds.FileTrailer) refl p) t (omega arith) q in b1 .is ∙ simp (append-assoc, append-nil)
 
-pub text-place : (w : ℕ) → w ≤ 35 → 5 + w ≤ 52
-text-place w h = omega arith
-
-pub ruleset builds = (code-put, file-header-is, header-start, identified-is, unidentified-is, ordering-party-is, item-is, text-line-is, batch-trailer-is, file-trailer-is, text-place, needs)
+pub ruleset builds = (code-put, file-header-is, header-start, identified-is, unidentified-is, ordering-party-is, item-is, text-line-is, batch-trailer-is, file-trailer-is, needs)
 
 -- ## A record to write
 

@@ -1,14 +1,13 @@
 -- A line into its room, and the writer's answer. Assumes nothing.
-use Prim.Native.Nat.{ℕ, _+_, _≤_, _<_}
-use mathlib.Core.Path.{_≡_, refl, sym, _∙_, ap}
+use Prim.Native.Nat.{ℕ, _≤_, _<_}
+use mathlib.Core.Path.{_≡_, sym, _∙_, ap}
 use mathlib.Core.List.{List, _++_}
 use native.Mathlib.Omega.{arith}
-use native.Mathlib.Numerals.{add-one}
 use borrow.Author.Needs.{needs}
 use borrow.Author.Tests.{eq-eqb, ne-eqb, le-leb, lt-leb}
-use lib.ListN.{length, getD, set, drop, length-set}
-use lib.Seq.{paste, paste-zero, paste-suc, take-all}
-use Rattle.machine.specs.Lists.{pick}
+use lib.ListN.{length, drop}
+use Rattle.machine.specs.Lists.{pick, putIn}
+use Rattle.field.proofs.Putting.{put-front}
 use Rattle.reading.specs.Step.{stepAt}
 use Rattle.reading.specs.declared.State.{State}
 use Rattle.reading.specs.declared.LineRead.{LineRead}
@@ -16,43 +15,6 @@ use Rattle.writer.specs.Entries.{lineFor}
 use Rattle.writer.specs.Writing.{answered, writtenBy, roomBy, writtenOf, roomOf}
 use Rattle.writer.specs.declared.Entry.{Entry}
 use Rattle.writer.specs.declared.Written.{Written}
-
--- ## The loop
-
-pub record Placing (o line out : List ℕ) (i : ℕ) : Type 0 where
-  pub within : i ≤ 52
-  pub long : length line ≡ 52
-  pub room : 52 ≤ length o
-  pub kept : length out ≡ length o
-  pub is : out ≡ paste o 0 line i
-
-pub place-none : (o line : List ℕ) → length line ≡ 52 → 52 ≤ length o → Placing o line o 0
-place-none o line h r = record { within = omega arith; long = h; room = r; kept = refl; is = paste-zero o 0 line }
-
-module _ {o line out : List ℕ} {i : ℕ} (p : Placing o line out i) where
-  pub place-more : i < 52 → Placing o line (set out i (getD line i 0)) (i + 1)
-  place-more k =
-      let z : 0 + i ≡ i = omega arith in
-      record {
-        within = omega arith;
-        long = p .long;
-        room = p .room;
-        kept = length-set out i (getD line i 0) ∙ p .kept;
-        is = rw (add-one, p .is) (ap (λ n. set (paste o 0 line i) n (getD line i 0)) (sym z) ∙ paste-suc o 0 line i 0 (omega (arith, p)) (omega (arith, p .long)));
-      }
-
-  pub place-in : i < 52 → i < length out
-  place-in k = omega (arith, p .kept, p .room)
-
-  pub place-all : 52 ≤ i → out ≡ line ++ drop 52 o
-  place-all k =
-      let e : i ≡ 52 = omega (arith, p .within) in
-      p .is ∙ ap (λ n. paste o 0 line n) e ∙ ap (λ t. t ++ drop 52 o) (take-all 52 line (omega (arith, p .long)))
-
-  pub place-kept : length out ≡ length o
-  place-kept = p .kept
-
-pub ruleset places = (place-none, place-more, place-in, place-all, place-kept, needs)
 
 -- ## By what the reader says
 
@@ -78,9 +40,9 @@ module _ {r x : LineRead} {o : List ℕ} (line out : List ℕ) (e : r ≡ x) whe
   unfolding pick
   room-small z l h = h ∙ sym (ap (λ y. roomBy y line out) (sym e) ∙ rw (eq-eqb _ _ z, lt-leb 52 (length out) l))
 
-  pub room-filled : r .answer ≡ 0 → 52 ≤ length out → o ≡ line ++ drop 52 out → o ≡ roomBy x line out
+  pub room-filled : length line ≡ 52 → r .answer ≡ 0 → 52 ≤ length out → o ≡ putIn out 0 line → o ≡ roomBy x line out
   unfolding pick
-  room-filled z l h = h ∙ sym (ap (λ y. roomBy y line out) (sym e) ∙ rw (eq-eqb _ _ z, le-leb 52 (length out) l))
+  room-filled n z l h = put-front out line (omega arith) h ∙ ap (λ m. line ++ drop m out) n ∙ sym (ap (λ y. roomBy y line out) (sym e) ∙ rw (eq-eqb _ _ z, le-leb 52 (length out) l))
 
 pub ruleset rooms = (by-refusal, by-room, by-acceptance, room-refused, room-small, room-filled, needs)
 

@@ -2,8 +2,7 @@
 use Prim.Native.Nat.{ℕ}
 use mathlib.Core.List.{List, [], _∷_, _++_}
 use mathlib.Core.Bool.{Bool, true, false}
-use lib.ListN.{length, take, drop}
-use lib.Seq.{paste}
+use lib.ListN.{take, drop}
 use lib.Dec.{ltb}
 use Rattle.machine.specs.Lists.{pick, all, isSpace, spaces}
 use Rattle.machine.specs.Digits.{pow10, decimal}
@@ -61,7 +60,3 @@ encodedLine code fs x = code ++ (encodeFields fs x ++ lineEnd)
 abbrev pub testText : Bool → List ℕ
 testText true = 84 ∷ []
 testText false = 80 ∷ []
-
--- (for functions that are not public) t in the place of what stands from `at` on
-unfoldable pub splice : List ℕ → ℕ → List ℕ → List ℕ
-splice d at t = paste d at t (length t)

@@ -9,7 +9,7 @@ use Rattle.format.specs.declared.Kind.the-variants as kinds
 use Rattle.format.specs.declared.Group.{Group}
 use Rattle.record.specs.declared.Transaction.{Transaction}
 use Rattle.reading.specs.declared.State.{State}
-use Rattle.writer.specs.Encoding.{splice, numberIn, Givens, encodedLine, testText}
+use Rattle.writer.specs.Encoding.{numberIn, Givens, encodedLine, testText}
 use Rattle.writer.specs.declared.Entry.{Entry}
 use Rattle.writer.specs.declared.Entry.the-variants.{FileHeader, BatchHeader, FixedDescription, OrderingParty, Item, NamePayer, PaymentReference, Description, NameBeneficiary, BatchTrailer, FileTrailer}
 
@@ -62,13 +62,3 @@ givenFor s t FileTrailer = (t, tt)
 -- THE LINE of a record to write: its 52 bytes
 unfoldable pub lineFor : State → Entry → List ℕ → List ℕ
 lineFor s e t = encodedLine (code (kindOf e)) (layout (kindOf e)) (givenFor s t e)
-
--- ## For functions that are not public
-
--- the first four fields of a batch header, put into a line
-abbrev pub headerStart : List ℕ → Group → ℕ → ℕ → List ℕ
-headerStart line g account sequence = splice (splice (splice (splice line 5 (groupText g)) 7 (numberIn 10 account)) 17 (numberIn 4 sequence)) 21 EUR
-
-abbrev pub batchHeaderLine : Bool → Group → ℕ → ℕ → List ℕ → List ℕ
-batchHeaderLine true g a q t = encodedLine (code kinds.BatchHeaderC) (layout kinds.BatchHeaderC) (batchHeaderGiven g a q t)
-batchHeaderLine false g a q t = encodedLine (code kinds.BatchHeaderB) (layout kinds.BatchHeaderB) (batchHeaderGiven g a q t)

@@ -1,5 +1,6 @@
 pub mod Encoding
 pub mod Entries
+pub mod Inner
 pub mod Writing
 pub mod Promises
 pub mod Cases

@@ -1,34 +1,29 @@
 // The fields of a line, each put at its place. A line is 50 characters with their end.
 ghost use mathlib.Core.Path.{_≡_};
-ghost use Prim.Native.Nat.{_+_, _≤_, _<_};
-ghost use lib.ListN.{length};
+ghost use Prim.Native.Nat.{_≤_};
 ghost use lib.Dec.{ltb};
-ghost use Rattle.machine.specs.Lists.{pick, all, isSpace};
-ghost use Rattle.machine.specs.Digits.{pow10, decimal};
+ghost use Rattle.machine.specs.Lists.{pick, all, isSpace, putIn};
+ghost use Rattle.machine.specs.Digits.{pow10};
 ghost use Rattle.format.specs.Rules.{groupText, typeText};
-ghost use Rattle.writer.specs.Encoding.{splice, unfit, numberIn, textIn, testText};
+ghost use Rattle.writer.specs.Encoding.{unfit, numberIn, textIn, testText};
 use field::bytes::is_blank;
 use field::bytes::part;
+use field::bytes::put;
+use field::numbers::digits_of;
 use format::Group;
 use format::TransactionType;
 
 pub(crate) fn put_bytes(line: [u8; 52], at: usize, text: &[u8]) -> [u8; 52]
-    requires { ⌜ at + length (now text) ≤ 52 ⌝ }
-    ensures { λ r. ⌜ r ≡ splice line at (now (text .entry)) ⌝ }
+    ensures { λ r. ⌜ r ≡ putIn line at (now (text .entry)) ⌝ }
 {
     let mut l = line;
-    let mut i: usize = 0;
-    while i < text.len() {
-        l[at + i] = text[i];
-        i += 1;
-    }
+    put(text, at, &mut l);
     l
 }
 
 // What a field cannot carry is written as a byte that no field takes, so that the reader refuses it there.
 fn put_unfit(line: [u8; 52], at: usize, width: usize) -> [u8; 52]
-    requires { ⌜ at + width ≤ 52 ⌝ }
-    ensures { λ r. ⌜ r ≡ splice line at (unfit width) ⌝ }
+    ensures { λ r. ⌜ r ≡ putIn line at (unfit width) ⌝ }
 {
     put_bytes(
         line,
@@ -50,43 +45,20 @@ fn is_within(n: u64, width: usize) -> bool
     rest == 0
 }
 
-fn digit(d: u64) -> u8
-    requires { ⌜ d < 10 ⌝ }
-    ensures { λ r. ⌜ r ≡ 48 + d ⌝ }
-{
-    48 + d as u8
-}
-
-// The last digits of a number.
-fn put_digits(line: [u8; 52], at: usize, width: usize, n: u64) -> [u8; 52]
-    requires { ⌜ at + width ≤ 52 ⌝ }
-    ensures { λ r. ⌜ r ≡ splice line at (decimal width n) ⌝ }
-{
-    let mut l = line;
-    let mut rest = n;
-    let mut i = width;
-    while 0 < i {
-        i -= 1;
-        l[at + i] = digit(rest % 10);
-        rest = rest / 10;
-    }
-    l
-}
-
 pub(crate) fn put_number(line: [u8; 52], at: usize, width: usize, n: u64) -> [u8; 52]
-    requires { ⌜ at + width ≤ 52 ⌝ }
-    ensures { λ r. ⌜ r ≡ splice line at (numberIn width n) ⌝ }
+    requires { ⌜ width ≤ 20 ⌝ }
+    ensures { λ r. ⌜ r ≡ putIn line at (numberIn width n) ⌝ }
 {
     if is_within(n, width) {
-        return put_digits(line, at, width, n);
+        let digits = digits_of(n);
+        return put_bytes(line, at, part(&digits, 20 - width, width));
     }
     put_unfit(line, at, width)
 }
 
 // A text, of which only spaces may be beyond the field.
 pub(crate) fn put_text(line: [u8; 52], at: usize, width: usize, text: &[u8]) -> [u8; 52]
-    requires { ⌜ at + width ≤ 52 ⌝ }
-    ensures { λ r. ⌜ r ≡ splice line at (textIn width (now (text .entry))) ⌝ }
+    ensures { λ r. ⌜ r ≡ putIn line at (textIn width (now (text .entry))) ⌝ }
 {
     if is_blank(part(text, width, text.len())) {
         return put_bytes(line, at, part(text, 0, width));
@@ -96,8 +68,7 @@ pub(crate) fn put_text(line: [u8; 52], at: usize, width: usize, text: &[u8]) -> 
 
 // A field that is left blank: no text may be given for it.
 pub(crate) fn put_blank(line: [u8; 52], at: usize, width: usize, text: &[u8]) -> [u8; 52]
-    requires { ⌜ at + width ≤ 52 ⌝ }
-    ensures { λ r. ⌜ r ≡ pick (all isSpace (now (text .entry))) line (splice line at (unfit width)) ⌝ }
+    ensures { λ r. ⌜ r ≡ pick (all isSpace (now (text .entry))) line (putIn line at (unfit width)) ⌝ }
 {
     if is_blank(text) {
         return line;
@@ -106,7 +77,7 @@ pub(crate) fn put_blank(line: [u8; 52], at: usize, width: usize, text: &[u8]) ->
 }
 
 pub(crate) fn put_group(line: [u8; 52], group: Group) -> [u8; 52]
-    ensures { λ r. ⌜ r ≡ splice line 5 (groupText group) ⌝ }
+    ensures { λ r. ⌜ r ≡ putIn line 5 (groupText group) ⌝ }
 {
     match group {
         Group::Payments => put_bytes(line, 5, b"00"),
@@ -115,7 +86,7 @@ pub(crate) fn put_group(line: [u8; 52], group: Group) -> [u8; 52]
 }
 
 pub(crate) fn put_type(line: [u8; 52], kind: TransactionType) -> [u8; 52]
-    ensures { λ r. ⌜ r ≡ splice line 5 (typeText kind) ⌝ }
+    ensures { λ r. ⌜ r ≡ putIn line 5 (typeText kind) ⌝ }
 {
     match kind {
         TransactionType::UncheckedCreditor => put_bytes(line, 5, b"0000"),
@@ -128,7 +99,7 @@ pub(crate) fn put_type(line: [u8; 52], kind: TransactionType) -> [u8; 52]
 }
 
 pub(crate) fn put_test(line: [u8; 52], test: bool) -> [u8; 52]
-    ensures { λ r. ⌜ r ≡ splice line 47 (testText test) ⌝ }
+    ensures { λ r. ⌜ r ≡ putIn line 47 (testText test) ⌝ }
 {
     if test {
         return put_bytes(line, 47, b"T");

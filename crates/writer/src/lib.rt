@@ -1,11 +1,10 @@
 // Writes a file record by record: a record becomes a line, the reader judges it, and a line that it accepts goes to the lent room.
 ghost use mathlib.Core.Path.{_≡_};
-ghost use mathlib.Core.List.{_++_};
-ghost use Prim.Native.Nat.{_≤_};
-ghost use lib.ListN.{length, drop};
+ghost use lib.ListN.{length};
 ghost use Rattle.reading.specs.Step.{stepAt};
 ghost use Rattle.writer.specs.Promises.{ReadsBack, WritesAgain, RefusesUnfit};
 ghost use Rattle.writer.specs.Writing.{writtenBy, roomBy, writtenOf, roomOf};
+use field::bytes::put;
 use format::Group;
 use lines::entry_line;
 use reading::State;
@@ -50,18 +49,6 @@ pub struct Written {
     pub next: State,
 }
 
-// A line at the front of the room.
-fn place(line: [u8; 52], out: &mut [u8])
-    requires { ⌜ 52 ≤ length (now out) ⌝ }
-    ensures { λ _. ⌜ now (out .exit) ≡ line ++ drop 52 (now (out .entry)) ⌝ }
-{
-    let mut i: usize = 0;
-    while i < 52 {
-        out[i] = line[i];
-        i += 1;
-    }
-}
-
 // A line that the reader accepts is written where there is room.
 fn write_line(state: State, line: [u8; 52], out: &mut [u8]) -> Written
     ensures answer { λ w. ⌜ w ≡ writtenBy state (length (now (out .entry))) (stepAt state line) ⌝ }
@@ -85,7 +72,7 @@ fn write_line(state: State, line: [u8; 52], out: &mut [u8]) -> Written
             next: state,
         };
     }
-    place(line, out);
+    put(&line, 0, out);
     Written {
         answer: 0,
         line: r.line,

@@ -11,7 +11,8 @@ write-line-spec =
     (λ c κs. search needs)  -- line-requires
     (λ c. search rooms depth 20 fits 10000)  -- returns
     (λ c. search rooms depth 20 fits 10000)  -- returns-2
-    (λ c κs. search needs)  -- place-requires
+    (λ c. search needs)  -- slice-aggregate-put
+    (λ c κs. search needs)  -- put-requires
     (λ c. search needs)  -- same-length
     (λ c. search rooms depth 20 fits 10000)  -- returns-3
     )

@@ -8,7 +8,11 @@ put-number-spec =
     tie.close
     (tie.spec
     (λ c κs. search needs)  -- is-within-requires
-    (λ c κs. search needs)  -- put-digits-requires
+    (λ c κs. search needs)  -- digits-of-requires
+    (λ c. search needs)  -- slice-aggregate-part
+    (λ c. search needs)  -- sub-part
+    (λ c κs. search needs)  -- part-requires
+    (λ c κs. search needs)  -- put-bytes-requires
     (λ c. search carries depth 20 fits 10000)  -- returns
     (λ c κs. search needs)  -- put-unfit-requires
     (λ c. search carries depth 20 fits 10000)  -- returns-2

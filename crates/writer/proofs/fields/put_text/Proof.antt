@@ -10,7 +10,7 @@ put-text-spec =
     (λ c κs. search needs)  -- part-requires
     (λ c κs. search needs)  -- is-blank-requires
     (λ c κs. search needs)  -- part-requires-2
-    (λ c κs. search carries)  -- put-bytes-requires
+    (λ c κs. search needs)  -- put-bytes-requires
     (λ c. search carries depth 20 fits 10000)  -- returns
     (λ c κs. search needs)  -- put-unfit-requires
     (λ c. search carries depth 20 fits 10000)  -- returns-2

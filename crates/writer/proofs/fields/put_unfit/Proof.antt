@@ -9,6 +9,6 @@ put-unfit-spec =
     (tie.spec
     (λ c. search needs)  -- slice-aggregate-part
     (λ c κs. search needs)  -- part-requires
-    (λ c κs. search carries)  -- put-bytes-requires
+    (λ c κs. search needs)  -- put-bytes-requires
     (λ c. search carries depth 20 fits 10000)  -- returns
     )

@@ -9,6 +9,6 @@ text-line-spec =
     (tie.spec
     (λ c κs. search needs)  -- coded-requires
     (λ c. search needs)  -- slice-aggregate-put-text
-    (λ c κs. search builds)  -- put-text-requires
+    (λ c κs. search needs)  -- put-text-requires
     (λ c. search builds depth 20 fits 10000)  -- returns
     )
