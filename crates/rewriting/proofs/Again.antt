@@ -2,19 +2,22 @@
 use Prim.Native.Nat.{ℕ, zero, suc, _+_, _≤_, _<_}
 use mathlib.Core.Path.{_≡_, refl, sym, ap, ap₂, _∙_, subst}
 use mathlib.Core.List.{List, [], _∷_, _++_}
-use mathlib.Core.Bool.{Bool, true, false}
+use mathlib.Core.Bool.{Bool, true, false, not, _&&_}
 use mathlib.Core.Option.{Option, none, some}
 use native.Mathlib.Omega.{arith}
 use borrow.Author.Tests.{eq-eqb, eqb-true, leb-true}
 use lib.ListN.{length, take, drop, take-append-drop, length-append}
 use lib.Seq.{take-at, drop-at, length-take-le}
 use lib.Dec.{T, eqb}
-use Rattle.machine.specs.Lists.{pick}
+use Rattle.machine.specs.Lists.{pick, placed}
 use Rattle.machine.proofs.Base.{and-first, true≢false}
+use Rattle.format.specs.Cutting.{rowsFrom, rows}
 use Rattle.format.specs.Records.{Fields}
 use Rattle.format.specs.declared.Kind.{Kind}
 use Rattle.format.specs.declared.Kind.the-variants.{FileHeader, BatchHeaderB, BatchHeaderC, FixedDescription, OrderingParty, Transaction, NamePayer, CityPayer, PaymentReference, Description, NameBeneficiary, CityBeneficiary, BatchTrailer, FileTrailer}
 use Rattle.format.specs.declared.Code.the-variants.{Of}
+use Rattle.format.proofs.ByRows.{rows-line}
+use Rattle.field.proofs.Putting.{placed-front}
 use Rattle.record.specs.Faults.{fieldsOf}
 use Rattle.record.specs.Read.{recordFor}
 use Rattle.reading.specs.State.{startState, isKept, within}
@@ -36,8 +39,8 @@ use Rattle.writer.specs.declared.Written.{Written}
 use Rattle.writer.proofs.Accepting.{step-front}
 use Rattle.writer.proofs.Again.{written-again}
 use Rattle.theorem.proofs.Meaning.{means}
-use Rattle.rewriting.specs.Cities.{isCity, keptLine, keptFrom, withoutCities}
-use Rattle.rewriting.specs.Promises.{noCityFrom, Rewrites, ended, city, written, Again, Promised}
+use Rattle.rewriting.specs.Cities.{isCity, keptLine, keptOf, withoutCities}
+use Rattle.rewriting.specs.Promises.{noCity, Rewrites, ended, city, written, Again, Promised}
 use Rattle.rewriting.specs.declared.Rewritten.{Rewritten}
 use Rattle.rewriting.proofs.Behind.{isCityKind, Behind, alike, within-behind, taken-too, behind-too, behind-city, city-kind}
 
@@ -52,18 +55,18 @@ unfolding keptLine pick
 line-kept l h = rw h
 
 -- a file without cities stays
-no-city : (k : ℕ) (xs : List ℕ) → noCityFrom k xs ≡ true → keptFrom k xs ≡ drop k xs
-unfolding noCityFrom keptFrom pick
+no-city : (k : ℕ) (xs : List ℕ) → noCity (rowsFrom k xs) ≡ true → keptOf (rowsFrom k xs) ≡ drop k xs
+unfolding noCity keptOf rowsFrom
 no-city zero [] h = refl
 no-city (suc k) [] h = refl
 no-city (suc k) (x ∷ xs) h = no-city k xs h
 no-city zero (x ∷ xs) h = on (isCity (take 52 (x ∷ xs))) refl h (λ r. no-city 51 xs r)
   where
-    on : (q : Bool) → isCity (take 52 (x ∷ xs)) ≡ q → pick q false (noCityFrom 51 xs) ≡ true → (noCityFrom 51 xs ≡ true → keptFrom 51 xs ≡ drop 51 xs) → keptLine (take 52 (x ∷ xs)) ++ keptFrom 51 xs ≡ x ∷ xs
+    on : (q : Bool) → isCity (take 52 (x ∷ xs)) ≡ q → (not q && noCity (rowsFrom 51 xs)) ≡ true → (noCity (rowsFrom 51 xs) ≡ true → keptOf (rowsFrom 51 xs) ≡ drop 51 xs) → keptLine (take 52 (x ∷ xs)) ++ keptOf (rowsFrom 51 xs) ≡ x ∷ xs
     on true e r f = absurd (true≢false (sym r))
     on false e r f = ap₂ _++_ (line-kept (take 52 (x ∷ xs)) e) (f r) ∙ take-append-drop 52 (x ∷ xs)
 
-pub same-file : (file : List ℕ) → noCityFrom 0 file ≡ true → withoutCities file ≡ file
+pub same-file : (file : List ℕ) → noCity (rows file) ≡ true → withoutCities file ≡ file
 unfolding withoutCities
 same-file file h = no-city 0 file h
 
@@ -126,8 +129,8 @@ module _ (j i : Judged) (xs : List ℕ) (p : Follows j i) (z : judgedFirst (j .n
       (subst (Follows R) (sym (kept-run (i .next) xs rest (long xs (t .whole)) i refl n))
       (f (judgedFirst (i .next) xs) (record { number = n; next = subst (λ (y : Judged). Behind (judgedFirst (j .next) xs .next) (y .next)) (sym g) (subst (λ (y : Judged). Behind (y .next) (nextFor (i .next) (t .kind) (fieldsOf (t .kind) (take 50 xs)))) (sym (t .is)) b) })))
 
-follows : (j i : Judged) (k : ℕ) (xs : List ℕ) → Follows j i → linesFrom j k xs .number ≡ 0 → Follows (linesFrom j k xs) (linesFrom i 0 (keptFrom k xs))
-unfolding linesFrom keptFrom
+follows : (j i : Judged) (k : ℕ) (xs : List ℕ) → Follows j i → linesFrom j k xs .number ≡ 0 → Follows (linesFrom j k xs) (linesFrom i 0 (keptOf (rowsFrom k xs)))
+unfolding linesFrom keptOf rowsFrom
 follows j i k [] p z = p
 follows j i (suc k) (x ∷ xs) p z = follows j i k xs p z
 follows j i zero (x ∷ xs) p z =
@@ -135,8 +138,8 @@ follows j i zero (x ∷ xs) p z =
     let n = first-zero f (linesFrom f 51 xs) z in
     let r = first-rest f (linesFrom f 51 xs) n in
     let y : linesFrom f 51 xs .number ≡ 0 = ap (λ (g : Judged). g .number) (sym r) ∙ z in
-    subst (λ g. Follows g (linesFrom i 0 (keptLine (take 52 (x ∷ xs)) ++ keptFrom 51 xs))) (sym r)
-    (line-on j i (x ∷ xs) p n (keptFrom 51 xs) (linesFrom f 51 xs) (λ u q. follows f u 51 xs q y) (isCity (take 52 (x ∷ xs))) refl)
+    subst (λ g. Follows g (linesFrom i 0 (keptLine (take 52 (x ∷ xs)) ++ keptOf (rowsFrom 51 xs)))) (sym r)
+    (line-on j i (x ∷ xs) p n (keptOf (rowsFrom 51 xs)) (linesFrom f 51 xs) (λ u q. follows f u 51 xs q y) (isCity (take 52 (x ∷ xs))) refl)
 
 -- ## The end
 
@@ -183,42 +186,27 @@ accepted-again file z =
     let a = lines-start file in
     let e : Ended (linesFrom (refused startState 0 0) 0 file) = subst Ended a (ends (linesOf startState file) z) in
     let p = follows (refused startState 0 0) (refused startState 0 0) 0 file (record { number = refl; next = start-behind }) (e .number) in
-    ended-zero (linesOf startState (keptFrom 0 file)) (subst Ended (sym (lines-start (keptFrom 0 file))) (ended-behind (linesFrom (refused startState 0 0) 0 file) (linesFrom (refused startState 0 0) 0 (keptFrom 0 file)) e p))
+    ended-zero (linesOf startState (keptOf (rows file))) (subst Ended (sym (lines-start (keptOf (rows file)))) (ended-behind (linesFrom (refused startState 0 0) 0 file) (linesFrom (refused startState 0 0) 0 (keptOf (rows file))) e p))
 
 -- ## No city is left
 
-pass : (k : ℕ) (xs : List ℕ) → noCityFrom k xs ≡ noCityFrom 0 (drop k xs)
-unfolding noCityFrom
-pass zero xs = refl
-pass (suc k) [] = refl
-pass (suc k) (x ∷ xs) = pass k xs
+none-line : (xs rest : List ℕ) → 52 ≤ length xs → (q : Bool) → isCity (take 52 xs) ≡ q → noCity (rows rest) ≡ true → noCity (rows (keptLine (take 52 xs) ++ rest)) ≡ true
+unfolding noCity
+none-line xs rest h true e r = ap (λ l. noCity (rows (l ++ rest))) (line-city (take 52 xs) e) ∙ r
+none-line xs rest h false e r =
+    ap (λ l. noCity (rows (l ++ rest))) (line-kept (take 52 xs) e) ∙ ap noCity (rows-line (take 52 xs) rest (length-take-le 52 xs h)) ∙ ap₂ (λ p q. not p && q) e r
 
-none-first : (ys : List ℕ) → 0 < length ys → isCity (take 52 ys) ≡ false → noCityFrom 0 ys ≡ noCityFrom 0 (drop 52 ys)
-unfolding noCityFrom pick
-none-first [] h e = absurd (omega arith)
-none-first (y ∷ ys) h e = ap (λ q. pick q false (noCityFrom 51 ys)) e ∙ pass 51 ys
-
-none-before : (xs rest : List ℕ) → 52 ≤ length xs → isCity (take 52 xs) ≡ false → noCityFrom 0 (take 52 xs ++ rest) ≡ noCityFrom 0 rest
-none-before xs rest h e =
-    let l = length-take-le 52 xs h in
-    let n : 0 < length (take 52 xs ++ rest) = rw length-append (omega arith) in
-    none-first (take 52 xs ++ rest) n (ap isCity (take-at (take 52 xs) rest 52 l) ∙ e) ∙ ap (noCityFrom 0) (drop-at (take 52 xs) rest 52 l)
-
-none-line : (xs rest : List ℕ) → 52 ≤ length xs → (q : Bool) → isCity (take 52 xs) ≡ q → noCityFrom 0 rest ≡ true → noCityFrom 0 (keptLine (take 52 xs) ++ rest) ≡ true
-none-line xs rest h true e r = ap (λ l. noCityFrom 0 (l ++ rest)) (line-city (take 52 xs) e) ∙ r
-none-line xs rest h false e r = ap (λ l. noCityFrom 0 (l ++ rest)) (line-kept (take 52 xs) e) ∙ none-before xs rest h e ∙ r
-
-none-left : (j : Judged) (k : ℕ) (xs : List ℕ) → linesFrom j k xs .number ≡ 0 → noCityFrom 0 (keptFrom k xs) ≡ true
-unfolding linesFrom keptFrom noCityFrom
+none-left : (j : Judged) (k : ℕ) (xs : List ℕ) → linesFrom j k xs .number ≡ 0 → noCity (rows (keptOf (rowsFrom k xs))) ≡ true
+unfolding linesFrom keptOf rowsFrom noCity
 none-left j k [] z = refl
 none-left j (suc k) (x ∷ xs) z = none-left j k xs z
 none-left j zero (x ∷ xs) z =
     let f = judgedFirst (j .next) (x ∷ xs) in
     let n = first-zero f (linesFrom f 51 xs) z in
     let y : linesFrom f 51 xs .number ≡ 0 = ap (λ (g : Judged). g .number) (sym (first-rest f (linesFrom f 51 xs) n)) ∙ z in
-    none-line (x ∷ xs) (keptFrom 51 xs) (long (x ∷ xs) (takes (j .next) (x ∷ xs) n .whole)) (isCity (take 52 (x ∷ xs))) refl (none-left f 51 xs y)
+    none-line (x ∷ xs) (keptOf (rowsFrom 51 xs)) (long (x ∷ xs) (takes (j .next) (x ∷ xs) n .whole)) (isCity (take 52 (x ∷ xs))) refl (none-left f 51 xs y)
 
-pub without-cities : (file : List ℕ) → checkOf file .number ≡ 0 → noCityFrom 0 (withoutCities file) ≡ true
+pub without-cities : (file : List ℕ) → checkOf file .number ≡ 0 → noCity (rows (withoutCities file)) ≡ true
 unfolding checkOf withoutCities
 without-cities file z =
     let e : Ended (linesFrom (refused startState 0 0) 0 file) = subst Ended (lines-start file) (ends (linesOf startState file) z) in
@@ -320,8 +308,8 @@ module _ (s w : State) (x : ℕ) (xs rest : List ℕ) (b : Behind s w) (z : judg
       (city (ap (λ (r : LineRead). r .answer) read-s) (ap (λ (r : LineRead). entryOf (r .read)) read-s ∙ no-entry (tk .kind) (fieldsOf (tk .kind) (take 50 (x ∷ xs))) c) (after w (behind-city b tk c)))
   line-written false e = subst (λ l. Rewrites s w (x ∷ xs) (l ++ rest)) (sym (line-kept (take 52 (x ∷ xs)) e)) (kept-written (sym (city-kind (x ∷ xs) tk) ∙ e))
 
-rewrites : (j : Judged) (w : State) (k : ℕ) (xs : List ℕ) → linesFrom j k xs .number ≡ 0 → Behind (j .next) w → Rewrites (j .next) w (drop k xs) (keptFrom k xs)
-unfolding linesFrom keptFrom
+rewrites : (j : Judged) (w : State) (k : ℕ) (xs : List ℕ) → linesFrom j k xs .number ≡ 0 → Behind (j .next) w → Rewrites (j .next) w (drop k xs) (keptOf (rowsFrom k xs))
+unfolding linesFrom keptOf rowsFrom
 rewrites j w zero [] z b = ended (j .next) w
 rewrites j w (suc k) [] z b = ended (j .next) w
 rewrites j w (suc k) (x ∷ xs) z b = rewrites j w k xs z b
@@ -329,7 +317,7 @@ rewrites j w zero (x ∷ xs) z b =
     let f = judgedFirst (j .next) (x ∷ xs) in
     let n = first-zero f (linesFrom f 51 xs) z in
     let y : linesFrom f 51 xs .number ≡ 0 = ap (λ (g : Judged). g .number) (sym (first-rest f (linesFrom f 51 xs) n)) ∙ z in
-    line-written (j .next) w x xs (keptFrom 51 xs) b n (λ u c. rewrites f u 51 xs y c) (isCity (take 52 (x ∷ xs))) refl
+    line-written (j .next) w x xs (keptOf (rowsFrom 51 xs)) b n (λ u c. rewrites f u 51 xs y c) (isCity (take 52 (x ∷ xs))) refl
 
 pub by-writer : (file : List ℕ) → checkOf file .number ≡ 0 → Rewrites startState startState file (withoutCities file)
 unfolding checkOf withoutCities
@@ -354,10 +342,10 @@ module _ {a : Answer} (file o : List ℕ) (w : Rewritten) (e : a ≡ checkOf fil
   unfolding Promised
   promise-none z h = λ q. absurd (z (sym h ∙ q))
 
-  pub promise-met : (out : List ℕ) → a .number ≡ 0 → w .written ≡ length (withoutCities file) → o ≡ withoutCities file ++ drop (length (withoutCities file)) out → Promised file w o
+  pub promise-met : (out : List ℕ) → a .number ≡ 0 → w .written ≡ length (withoutCities file) → o ≡ placed out 0 (withoutCities file) → Promised file w o
   unfolding Promised
   promise-met out z n h = λ q.
-      let b : take (w .written) o ≡ withoutCities file = ap₂ take n h ∙ take-at (withoutCities file) (drop (length (withoutCities file)) out) (length (withoutCities file)) refl in
+      let b : take (w .written) o ≡ withoutCities file = ap₂ take n (h ∙ placed-front out (withoutCities file)) ∙ take-at (withoutCities file) (drop (length (withoutCities file)) out) (length (withoutCities file)) refl in
       subst (Again file) (sym b) (all-again file (ap (λ (y : Answer). y .number) (sym e) ∙ z))
 
 pub promise-small : (file o : List ℕ) (w : Rewritten) → w .answer ≡ 12 → Promised file w o

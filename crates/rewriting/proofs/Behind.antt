@@ -23,12 +23,11 @@ use Rattle.record.specs.Read.{transactionFor}
 use Rattle.record.proofs.Coding.{code-is}
 use Rattle.reading.specs.State.{isKept, within}
 use Rattle.reading.specs.Order.{isStage, isName, mayEnd, mayPay, mayName, textsBy, mayText, mayRefer, roomFor, mayDescribe, allowed}
-use Rattle.reading.specs.Step.{nameIf, afterText, nextFor, refused, taken, judgedAs, judgedKind, judgedLine, isWhole, isDone, judgedFirst}
+use Rattle.reading.specs.Step.{nameIf, afterText, nextFor, taken, judgedAs, judgedKind, judgedLine, isWhole, isDone, judgedFirst}
 use Rattle.reading.specs.declared.Stage.the-variants.{Item}
 use Rattle.reading.specs.declared.Name.{Name}
 use Rattle.reading.specs.declared.Name.the-variants.{Unwanted, Due, Read, Past}
 use Rattle.reading.specs.declared.State.{State}
-use Rattle.reading.specs.declared.Judged.{Judged}
 use Rattle.reading.proofs.Limits.{within-line}
 use Rattle.reading.proofs.Verdicts.{Taken}
 use Rattle.rewriting.specs.Cities.{isCity}

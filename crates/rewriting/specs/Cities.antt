@@ -1,9 +1,10 @@
 -- A file without its city records.
-use Prim.Native.Nat.{ℕ, zero, suc}
+use Prim.Native.Nat.{ℕ}
 use mathlib.Core.List.{List, [], _∷_, _++_}
 use mathlib.Core.Bool.{Bool, _||_}
 use lib.ListN.{take}
 use Rattle.machine.specs.Lists.{pick, same}
+use Rattle.format.specs.Cutting.{rows}
 use Rattle.format.specs.Records.{code}
 use Rattle.format.specs.declared.Kind.the-variants.{CityPayer, CityBeneficiary}
 
@@ -15,12 +16,11 @@ isCity line = same (take 5 line) (code CityPayer) || same (take 5 line) (code Ci
 unfoldable pub keptLine : List ℕ → List ℕ
 keptLine line = pick (isCity line) [] line
 
--- the lines of 52 bytes that are no city's, where k bytes of the line before are still to be passed
-unfoldable pub keptFrom : ℕ → List ℕ → List ℕ
-keptFrom k [] = []
-keptFrom (suc k) (x ∷ xs) = keptFrom k xs
-keptFrom zero (x ∷ xs) = keptLine (take 52 (x ∷ xs)) ++ keptFrom 51 xs
+-- of some lines those that are no city's, one after the other
+unfoldable pub keptOf : List (List ℕ) → List ℕ
+keptOf [] = []
+keptOf (line ∷ lines) = keptLine line ++ keptOf lines
 
 -- THE BYTES WRITTEN: the file's own lines without those of cities, in their order
 unfoldable pub withoutCities : List ℕ → List ℕ
-withoutCities file = keptFrom 0 file
+withoutCities file = keptOf (rows file)

@@ -1,12 +1,12 @@
 -- WHAT WRITING AGAIN PROMISES of an accepted file.
-use Prim.Native.Nat.{ℕ, zero, suc}
+use Prim.Native.Nat.{ℕ}
 use mathlib.Core.Path.{_≡_}
 use mathlib.Core.List.{List, [], _∷_, _++_}
-use mathlib.Core.Bool.{Bool, true, false}
+use mathlib.Core.Bool.{Bool, true, not, _&&_}
 use mathlib.Core.Option.{none, some}
 use lib.ListN.{take, drop}
-use Rattle.machine.specs.Lists.{pick}
 use Rattle.format.specs.Answers.{accepted}
+use Rattle.format.specs.Cutting.{rows}
 use Rattle.format.specs.Statements.{InLanguage}
 use Rattle.reading.specs.State.{startState}
 use Rattle.reading.specs.Step.{stepAt}
@@ -19,11 +19,10 @@ use Rattle.writer.specs.declared.Entry.{Entry}
 use Rattle.rewriting.specs.Cities.{isCity}
 use Rattle.rewriting.specs.declared.Rewritten.{Rewritten}
 
--- no line is a city's, where k bytes of the line before are still to be passed
-unfoldable pub noCityFrom : ℕ → List ℕ → Bool
-noCityFrom k [] = true
-noCityFrom (suc k) (x ∷ xs) = noCityFrom k xs
-noCityFrom zero (x ∷ xs) = pick (isCity (take 52 (x ∷ xs))) false (noCityFrom 51 xs)
+-- none of some lines is a city's
+unfoldable pub noCity : List (List ℕ) → Bool
+noCity [] = true
+noCity (line ∷ lines) = not (isCity line) && noCity lines
 
 -- s reads a file line by line, and of each record that is no city's w writes what the writer does: the line of its record and text, which the writer accepts, and the writer's next state
 pub data Rewrites : State → State → List ℕ → List ℕ → Type 0 where
@@ -38,11 +37,11 @@ pub data Rewrites : State → State → List ℕ → List ℕ → Type 0 where
 -- of the bytes written
 pub record Again (file bytes : List ℕ) : Type 0 where
   -- of a file without city records: the same file
-  pub same-file : noCityFrom 0 file ≡ true → bytes ≡ file
+  pub same-file : noCity (rows file) ≡ true → bytes ≡ file
   -- of every file: the reader accepts them, so they are a file of the language, and none of it is a city record
   pub accepted-again : checkOf bytes .number ≡ accepted
   pub in-language : InLanguage bytes
-  pub without-cities : noCityFrom 0 bytes ≡ true
+  pub without-cities : noCity (rows bytes) ≡ true
   -- and they are what the writer writes of the file's records but cities, one after the other from its own start
   pub by-writer : Rewrites startState startState file bytes
 

@@ -1,9 +1,9 @@
 -- What a file to write again is answered, and the lent room after it.
 use Prim.Native.Nat.{ℕ}
-use mathlib.Core.List.{List, _++_}
-use lib.ListN.{length, drop}
+use mathlib.Core.List.{List}
+use lib.ListN.{length}
 use lib.Dec.{leb, eqb}
-use Rattle.machine.specs.Lists.{pick}
+use Rattle.machine.specs.Lists.{pick, putIn}
 use Rattle.format.specs.Answers.{accepted, noRoom}
 use Rattle.reading.specs.Check.{checkOf}
 use Rattle.reading.specs.declared.Answer.{Answer}
@@ -21,9 +21,9 @@ rewrittenBy a n room =
     (told noRoom (a .line) 0 0))
     (told (a .number) (a .line) (a .column) 0)
 
--- the bytes at the front, and those after them as they were
+-- the bytes at the front, where they fit, and those after them as they were
 abbrev pub roomBy : Answer → List ℕ → List ℕ → List ℕ
-roomBy a bytes out = pick (eqb (a .number) accepted) (pick (leb (length bytes) (length out)) (bytes ++ drop (length bytes) out) out) out
+roomBy a bytes out = pick (eqb (a .number) accepted) (putIn out 0 bytes) out
 
 -- THE ANSWER to a file to write again, with so much room
 unfoldable pub rewrittenOf : List ℕ → ℕ → Rewritten

@@ -2,15 +2,15 @@
 // The file's own lines are copied, not built anew. That they are what `writer::write` writes of the file's records, one after the
 // other from a state of its own, is proved of the bytes (`Promised`, by-writer); no call of the writer stands in this code.
 ghost use mathlib.Core.Path.{_≡_};
-ghost use mathlib.Core.List.{_++_};
-ghost use Prim.Native.Nat.{_+_, _≤_};
-ghost use lib.ListN.{length, drop};
-ghost use lib.Seq.{paste};
+ghost use Prim.Native.Nat.{_≤_};
+ghost use lib.ListN.{length};
+ghost use Rattle.machine.specs.Lists.{placed};
 ghost use Rattle.rewriting.specs.Cities.{isCity, keptLine, withoutCities};
 ghost use Rattle.rewriting.specs.Promises.{Promised};
 ghost use Rattle.rewriting.specs.Rewriting.{rewrittenOf, roomAfter};
 use field::bytes::is_same;
 use field::bytes::part;
+use field::bytes::put;
 
 // What a file to write again is answered, and how many bytes were written.
 pub struct Rewritten {
@@ -52,28 +52,16 @@ fn size(file: &[u8]) -> usize
     n
 }
 
-// A line at a place of the room.
-fn place(line: &[u8], at: usize, out: &mut [u8])
-    requires { ⌜ at + length (now line) ≤ length (now out) ⌝ }
-    ensures { λ _. ⌜ now (out .exit) ≡ paste (now (out .entry)) at (now (line .entry)) (length (now (line .entry))) ⌝ }
-{
-    let mut i: usize = 0;
-    while i < line.len() {
-        out[at + i] = line[i];
-        i += 1;
-    }
-}
-
 // The lines that are no city's, one after the other.
 fn copy(file: &[u8], out: &mut [u8])
     requires { ⌜ length (withoutCities (now file)) ≤ length (now out) ⌝ }
-    ensures { λ _. ⌜ now (out .exit) ≡ withoutCities (now (file .entry)) ++ drop (length (withoutCities (now (file .entry)))) (now (out .entry)) ⌝ }
+    ensures { λ _. ⌜ now (out .exit) ≡ placed (now (out .entry)) 0 (withoutCities (now (file .entry))) ⌝ }
 {
     let mut at: usize = 0;
     let mut i: usize = 0;
     while i < file.len() {
         let line = kept(part(file, i, 52));
-        place(line, at, out);
+        put(line, at, out);
         at += line.len();
         i += 52;
     }

@@ -20,7 +20,7 @@ copy-spec =
     (λ c. search copies depth 20 fits 10000)  -- loop-holds
     (λ c κs. search needs)  -- part-requires
     (λ c κs. search needs)  -- kept-requires
-    (λ c κs. search copies depth 20 fits 10000)  -- place-requires
+    (λ c κs. search needs)  -- put-requires
     (λ c. search (copy-sum (c .before .before .before .before .before .before .before .loop .inv) (c .before .before .before .before .before .before .loop-test .taken) (c .before .before .before .before .before .part .ensures) (c .before .before .before .before .kept .ensures), needs))  -- add-at
     (λ c. search needs)  -- add-i
     (λ c. search needs)  -- loop-less
