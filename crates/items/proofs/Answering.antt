@@ -3,15 +3,18 @@ use Prim.Native.Nat.{ℕ, _≤_, _<_}
 use mathlib.Core.Path.{_≡_, _∙_, ap, ap₂}
 use mathlib.Core.List.{List, _++_}
 use mathlib.Core.Bool.{Bool, true, false}
+use native.Mathlib.Omega.{arith}
 use borrow.Author.Needs.{needs}
 use borrow.Author.Tests.{eq-eqb, ne-eqb, le-leb, lt-leb}
 use lib.ListN.{length, drop}
-use Rattle.machine.specs.Lists.{pick}
+use Rattle.machine.specs.Lists.{pick, putIn}
+use Rattle.format.specs.Cutting.{rows}
+use Rattle.field.proofs.Putting.{put-front}
 use Rattle.reading.specs.Check.{checkOf}
 use Rattle.reading.specs.declared.Answer.{Answer}
 use Rattle.descriptions.specs.Texts.{merged, limitFor}
 use Rattle.descriptions.specs.declared.Descriptions.{Descriptions}
-use Rattle.items.specs.Search.{noFields, started, afterLines}
+use Rattle.items.specs.Search.{noFields, started, afterRows}
 use Rattle.items.specs.Answering.{told, isFound, textsFound, answeredBy, roomBy, itemOf, roomAfter}
 use Rattle.items.specs.declared.ItemFields.{ItemFields}
 use Rattle.items.specs.declared.Found.{Found}
@@ -55,19 +58,19 @@ module _ (s : Search) (a : Answer) (out : List ℕ) where
   unfolding roomBy pick
   room-small z e f l = rw (eq-eqb _ _ z, ← e, f, lt-leb 128 (length out) l)
 
-  pub room-filled : {o t : List ℕ} {q : Bool} → a .number ≡ 0 → q ≡ isFound (s .found .fields .kind) → q ≡ true → 128 ≤ length out → t ≡ textsFound (s .found) → length t ≡ 128 → o ≡ t ++ drop (length t) out → o ≡ roomBy s a out
+  pub room-filled : {o t : List ℕ} {q : Bool} → a .number ≡ 0 → q ≡ isFound (s .found .fields .kind) → q ≡ true → 128 ≤ length out → t ≡ textsFound (s .found) → length t ≡ 128 → o ≡ putIn out 0 t → o ≡ roomBy s a out
   unfolding roomBy pick
-  room-filled {o} {t} z e f l g n h = h ∙ ap (λ m. t ++ drop m out) n ∙ ap (λ y. y ++ drop 128 out) g ∙ rw (eq-eqb _ _ z, ← e, f, le-leb 128 (length out) l)
+  room-filled {o} {t} z e f l g n h = put-front out t (omega (arith, n)) h ∙ ap (λ m. t ++ drop m out) n ∙ ap (λ y. y ++ drop 128 out) g ∙ rw (eq-eqb _ _ z, ← e, f, le-leb 128 (length out) l)
 
 pub ruleset rooms = (by-refusal, by-none, by-room, by-item, room-refused, room-none, room-small, room-filled, needs)
 
 -- ## The whole
 
-module _ {s t : Search} {a : Answer} (file : List ℕ) (batch item : ℕ) (e : a ≡ checkOf file) (f : s ≡ started batch item) (g : t ≡ afterLines s 0 file) where
+module _ {s t : Search} {a : Answer} (file : List ℕ) (batch item : ℕ) (e : a ≡ checkOf file) (f : s ≡ started batch item) (g : t ≡ afterRows s (rows file)) where
   pub item-via : {w : ItemRead} (room : ℕ) → w ≡ answeredBy t a room → w ≡ itemOf file batch item room
   unfolding itemOf
-  item-via room h = h ∙ ap₂ (λ x y. answeredBy x y room) (g ∙ ap (λ x. afterLines x 0 file) f) e
+  item-via room h = h ∙ ap₂ (λ x y. answeredBy x y room) (g ∙ ap (λ x. afterRows x (rows file)) f) e
 
   pub room-via : {o : List ℕ} (out : List ℕ) → o ≡ roomBy t a out → o ≡ roomAfter file batch item out
   unfolding roomAfter
-  room-via out h = h ∙ ap₂ (λ x y. roomBy x y out) (g ∙ ap (λ x. afterLines x 0 file) f) e
+  room-via out h = h ∙ ap₂ (λ x y. roomBy x y out) (g ∙ ap (λ x. afterRows x (rows file)) f) e

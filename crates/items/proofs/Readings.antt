@@ -1,6 +1,6 @@
 -- What the search finds in a file's records: that file's item. Assumes nothing.
 use Prim.Native.Nat.{ℕ, zero, suc, _-_}
-use mathlib.Core.Path.{_≡_, refl, sym, _∙_, ap, ap₂}
+use mathlib.Core.Path.{_≡_, refl, _∙_, ap, ap₂}
 use mathlib.Core.List.{List, [], _∷_}
 use mathlib.Core.Bool.{Bool, true, false}
 use mathlib.Core.Option.{Option, none, some}
@@ -19,7 +19,6 @@ use Rattle.items.specs.Search.{withItem, withFixed, withOwn, withReferen
 use Rattle.items.specs.Promises.{nth}
 use Rattle.items.specs.declared.Found.{Found}
 use Rattle.items.specs.declared.Search.{Search}
-use Rattle.items.proofs.Searching.{opened-on}
 use Rattle.items.proofs.Recorded.{afterRecs}
 
 -- a city changes nothing
@@ -196,7 +195,8 @@ module _ (g : Group) (x : Batch) (bs : List Batch) where
       ap (λ (s : Search). s .found) (item-on 0 0 true (withItem f t) g i (itemsRecs g is (trailed g x bs))) ∙ items-past true (onItem f i) is
   items-on (suc (suc n)) f (i ∷ is) =
       let t = transactionFor (i .type, (i .amount, (i .payer, (i .beneficiary, (tt, tt))))) in
-      let on : opened (searching 0 (suc (suc n)) true false f) t ≡ searching 0 (suc n) true false f = sym (opened-on (searching 0 (suc (suc n)) true false f) t refl (λ e. absurd (omega arith)) (omega arith)) in
+      let e : suc (suc n) - 1 ≡ suc n = omega arith in
+      let on : opened (searching 0 (suc (suc n)) true false f) t ≡ searching 0 (suc n) true false f = rw (ne-eqb (suc (suc n)) 1 (λ z. absurd (omega arith)), e) in
       ap (λ (s : Search). s .found) (ap (λ s. afterRecs s (itemRecs g i (itemsRecs g is (trailed g x bs)))) on ∙ item-off 0 (suc n) true f g i (itemsRecs g is (trailed g x bs))) ∙ items-on (suc n) f is
 
   batch-on : (n : ℕ) (f : Found) → afterRecs (searching 0 n true false f) (inside g x bs) .found ≡ itemFound (onFixed f (x .fixed)) (nth n (x .items))

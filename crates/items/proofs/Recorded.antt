@@ -1,6 +1,6 @@
 -- The lines of a file's records lead the search where its records do. Assumes nothing.
-use Prim.Native.Nat.{ℕ, _+_, _-_, _≤_, _<_}
-use mathlib.Core.Path.{_≡_, refl, sym, _∙_, ap, ap₂}
+use Prim.Native.Nat.{ℕ, _+_, _-_, _≤_}
+use mathlib.Core.Path.{_≡_, refl, sym, _∙_, ap}
 use mathlib.Core.List.{List, [], _∷_, _++_, append-assoc}
 use mathlib.Core.Bool.{true}
 use native.Mathlib.Omega.{arith}
@@ -9,10 +9,12 @@ use lib.ListN.{length, take, length-append}
 use lib.Seq.{take-at, drop-at}
 use lib.Dec.{leb}
 use Rattle.format.specs.Fields.{Field, numeric, filled, optional, free, filler, width, Value, Values, writeField, writeFields, Fit, Fits}
+use Rattle.format.specs.Cutting.{rowsFrom, rows}
 use Rattle.format.specs.Records.{layout, code, Fields}
 use Rattle.format.specs.Language.{Rec, Ending, crlf, endBytes, lineOf, linesOf}
 use Rattle.format.specs.declared.Kind.{Kind}
 use Rattle.format.specs.declared.Kind.the-variants.{FileHeader, BatchHeaderB, BatchHeaderC, FixedDescription, OrderingParty, Transaction, NamePayer, CityPayer, PaymentReference, Description, NameBeneficiary, CityBeneficiary, BatchTrailer, FileTrailer}
+use Rattle.format.proofs.ByRows.{rows-line}
 use Rattle.format.proofs.Checks.{field-read}
 use Rattle.format.proofs.Link.{line-widths, line-length}
 use Rattle.format.proofs.Reader.{State, Path, end, go}
@@ -25,9 +27,8 @@ use Rattle.field.specs.declared.numbers.Digits.{Digits}
 use Rattle.field.proofs.Numerics.{digits-are}
 use Rattle.record.specs.Read.{transactionFor, valueIn, valuesAt, valuesOf}
 use Rattle.record.proofs.Reading.{narrow, narrow-first, narrow-rest, narrow-layout}
-use Rattle.items.specs.Search.{headed, opened, fixed, described, referred, named, isName, isHeader, afterLine, afterLines}
+use Rattle.items.specs.Search.{headed, opened, fixed, described, referred, named, isName, isHeader, afterLine, afterRows}
 use Rattle.items.specs.declared.Search.{Search}
-use Rattle.items.proofs.Searching.{first-line}
 
 -- ## The fields of a written line
 
@@ -100,14 +101,12 @@ unfoldable pub afterRecs : Search → List Rec → Search
 afterRecs s [] = s
 afterRecs s (r ∷ rs) = afterRecs (afterFor s (r .0) (r .1)) rs
 
-pub lines-back : {p : State} {rs : List Rec} (z : Ending) → Path p rs → (s : Search) → afterLines s 0 (linesOf (endBytes z) rs) ≡ afterRecs s rs
-unfolding afterLines afterRecs linesOf
+pub lines-back : {p : State} {rs : List Rec} (z : Ending) → Path p rs → (s : Search) → afterRows s (rows (linesOf (endBytes z) rs)) ≡ afterRecs s rs
+unfolding afterRows afterRecs linesOf rowsFrom
 lines-back z end s = refl
 lines-back crlf (go {s = c} {rs = rs} k x pl o p) s =
     let line : List ℕ = lineOf (13 ∷ 10 ∷ []) (k, x) in
     let l : length line ≡ 52 = line-length pl c x o (13 ∷ 10 ∷ []) in
-    let n : 0 < length (line ++ linesOf (13 ∷ 10 ∷ []) rs) = rw length-append (omega arith) in
-    first-line s (line ++ linesOf (13 ∷ 10 ∷ []) rs) n
-    ∙ ap₂ (λ y ys. afterLines (afterLine s y) 0 ys) (take-at line (linesOf (13 ∷ 10 ∷ []) rs) 52 l) (drop-at line (linesOf (13 ∷ 10 ∷ []) rs) 52 l)
-    ∙ ap (λ t. afterLines t 0 (linesOf (13 ∷ 10 ∷ []) rs)) (line-back s k x (13 ∷ 10 ∷ []) (o .fits))
+    ap (afterRows s) (rows-line line (linesOf (13 ∷ 10 ∷ []) rs) l)
+    ∙ ap (λ t. afterRows t (rows (linesOf (13 ∷ 10 ∷ []) rs))) (line-back s k x (13 ∷ 10 ∷ []) (o .fits))
     ∙ lines-back crlf p (afterFor s k x)

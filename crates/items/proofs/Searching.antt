@@ -1,18 +1,19 @@
 -- The search after a line, from what calls answered. Assumes nothing.
-use Prim.Native.Nat.{ℕ, zero, suc, _+_, _-_, _≤_, _<_}
-use mathlib.Core.Path.{_≡_, refl, sym, _∙_, ap, ap₂}
-use mathlib.Core.List.{List, [], _∷_}
+use Prim.Native.Nat.{ℕ, _+_, _-_, _≤_, _<_}
+use mathlib.Core.Path.{_≡_, refl, sym, _∙_, ap}
+use mathlib.Core.List.{List}
 use mathlib.Core.Bool.{Bool, true, false, _||_}
-use native.Mathlib.Omega.{arith}
 use borrow.Author.Needs.{needs}
-use borrow.Author.Tests.{eq-eqb, ne-eqb}
-use lib.ListN.{length, take, drop, length-drop, drop-of-length-le}
-use lib.Seq.{drop-drop}
+use borrow.Author.Tests.{ne-eqb}
+use lib.ListN.{length, take, drop}
+use lib.Dec.{eqb}
 use Rattle.machine.specs.Lists.{pick}
+use Rattle.format.specs.Cutting.{rows}
 use Rattle.format.specs.declared.Kind.the-variants.{BatchHeaderB, BatchHeaderC, NamePayer, NameBeneficiary}
+use Rattle.format.proofs.ByRows.{rows-at, rows-none}
 use Rattle.record.specs.declared.Transaction as items
 use Rattle.descriptions.specs.declared.Descriptions.{Descriptions}
-use Rattle.items.specs.Search.{withItem, withFixed, withOwn, withReference, withName, searching, finding, opened, fixed, described, referred, named, begins, isName, isHeader, afterLine, afterLines}
+use Rattle.items.specs.Search.{filledTo, withItem, withFixed, withOwn, referenceIn, withReference, nameIn, withName, searching, finding, opened, fixed, described, referred, named, begins, isName, isHeader, afterLine, afterRows}
 use Rattle.items.specs.declared.ItemFields.{ItemFields}
 use Rattle.items.specs.declared.Found.{Found}
 use Rattle.items.specs.declared.Search.{Search}
@@ -25,14 +26,10 @@ finds a b q x = record { fixed = a; own = b; referred = q; fields = x }
 pub found-made : {a b c d : Descriptions} {q : Bool} {x y : ItemFields} → a ≡ b → c ≡ d → x ≡ y → finds a c q x ≡ finds b d q y
 found-made e f g = rw (e, f, g)
 
-pub reference-made : {t : List ℕ} (f : Found) (u : List ℕ) → t ≡ u
-    → finds (f .fixed) (f .own) true (record { kind = f .fields .kind; amount = f .fields .amount; payer = f .fields .payer; beneficiary = f .fields .beneficiary; reference = t; name = f .fields .name })
-    ≡ finds (f .fixed) (f .own) true (record { kind = f .fields .kind; amount = f .fields .amount; payer = f .fields .payer; beneficiary = f .fields .beneficiary; reference = u; name = f .fields .name })
+pub reference-made : {t : List ℕ} (f : Found) (u : List ℕ) → t ≡ filledTo 16 u → finds (f .fixed) (f .own) true (referenceIn (f .fields) t) ≡ withReference f u
 reference-made f u e = rw e
 
-pub name-made : {t : List ℕ} (f : Found) (u : List ℕ) → t ≡ u
-    → finds (f .fixed) (f .own) (f .referred) (record { kind = f .fields .kind; amount = f .fields .amount; payer = f .fields .payer; beneficiary = f .fields .beneficiary; reference = f .fields .reference; name = t })
-    ≡ finds (f .fixed) (f .own) (f .referred) (record { kind = f .fields .kind; amount = f .fields .amount; payer = f .fields .payer; beneficiary = f .fields .beneficiary; reference = f .fields .reference; name = u })
+pub name-made : {t : List ℕ} (f : Found) (u : List ℕ) → t ≡ filledTo 24 u → finds (f .fixed) (f .own) (f .referred) (nameIn (f .fields) t) ≡ withName f u
 name-made f u e = rw e
 
 pub ruleset founds = (found-made, reference-made, name-made, needs)
@@ -43,13 +40,14 @@ pub search-made : {b c i j : ℕ} {v w h : Bool} {f g : Found} → b ≡ c → i
 search-made d e k l = rw (d, e, k, l)
 
 module _ (s : Search) (t : items.Transaction) where
-  pub opened-here : {g : Found} {u : items.Transaction} → s .within ≡ true → s .items ≡ 1 → u ≡ t → g ≡ withItem (s .found) u → searching (s .batches) 0 true true g ≡ opened s t
+  pub opened-here : {n : ℕ} {g : Found} {u : items.Transaction} → s .within ≡ true → s .items ≡ 1 → n ≡ s .items - 1 → u ≡ t → g ≡ withItem (s .found) u
+      → searching (s .batches) n (s .within) (eqb (s .items) 1) g ≡ opened s t
   unfolding opened pick
-  opened-here w n h e = rw (w, eq-eqb (s .items) 1 n, e, h)
+  opened-here w n d h e = rw (w, d, n, e, h)
 
-  pub opened-on : {n : ℕ} → s .within ≡ true → (s .items ≡ 1 → ⊥) → n ≡ s .items - 1 → searching (s .batches) n true false (s .found) ≡ opened s t
+  pub opened-on : {n : ℕ} → s .within ≡ true → (s .items ≡ 1 → ⊥) → n ≡ s .items - 1 → searching (s .batches) n (s .within) (eqb (s .items) 1) (s .found) ≡ opened s t
   unfolding opened pick
-  opened-on w z e = rw (w, ne-eqb (s .items) 1 z, e)
+  opened-on w z d = rw (w, ne-eqb (s .items) 1 z, d)
 
   pub opened-not : s .within ≡ false → s ≡ opened s t
   unfolding opened pick
@@ -57,22 +55,22 @@ module _ (s : Search) (t : items.Transaction) where
 
 pub ruleset opens = (opened-here, opened-on, opened-not, needs)
 
-module _ {x : Search} {g : Found} {p : List ℕ} (s : Search) (t : List ℕ) (e : x ≡ finding s g) (d : p ≡ t) where
-  pub fixed-in : s .within ≡ true → g ≡ withFixed (s .found) p → x ≡ fixed s t
+module _ {g : Found} {p : List ℕ} (s : Search) (t : List ℕ) (d : p ≡ t) where
+  pub fixed-in : s .within ≡ true → g ≡ withFixed (s .found) p → finding s g ≡ fixed s t
   unfolding fixed pick
-  fixed-in w h = e ∙ rw (w, h, d)
+  fixed-in w h = rw (w, h, d)
 
-  pub described-in : s .here ≡ true → g ≡ withOwn (s .found) p → x ≡ described s t
+  pub described-in : s .here ≡ true → g ≡ withOwn (s .found) p → finding s g ≡ described s t
   unfolding described pick
-  described-in w h = e ∙ rw (w, h, d)
+  described-in w h = rw (w, h, d)
 
-  pub referred-in : s .here ≡ true → g ≡ withReference (s .found) p → x ≡ referred s t
+  pub referred-in : s .here ≡ true → g ≡ withReference (s .found) p → finding s g ≡ referred s t
   unfolding referred pick
-  referred-in w h = e ∙ rw (w, h, d)
+  referred-in w h = rw (w, h, d)
 
-  pub named-in : s .here ≡ true → g ≡ withName (s .found) p → x ≡ named s t
+  pub named-in : s .here ≡ true → g ≡ withName (s .found) p → finding s g ≡ named s t
   unfolding named pick
-  named-in w h = e ∙ rw (w, h, d)
+  named-in w h = rw (w, h, d)
 
 module _ (s : Search) (t : List ℕ) where
   pub fixed-out : s .within ≡ false → s ≡ fixed s t
@@ -106,32 +104,20 @@ module _ {a b : Bool} (line : List ℕ) where
 
 pub ruleset eithers = (either-name, either-header, needs)
 
-pub skip : (s : Search) (k : ℕ) (xs : List ℕ) → afterLines s k xs ≡ afterLines s 0 (drop k xs)
-unfolding afterLines
-skip s zero xs = refl
-skip s (suc k) [] = refl
-skip s (suc k) (x ∷ xs) = skip s k xs
-
-pub first-line : (s : Search) (xs : List ℕ) → 0 < length xs → afterLines s 0 xs ≡ afterLines (afterLine s (take 52 xs)) 0 (drop 52 xs)
-unfolding afterLines
-first-line s [] h = absurd (omega arith)
-first-line s (x ∷ xs) h = skip (afterLine s (take 52 (x ∷ xs))) 51 xs
-
 -- what is left leads to what the whole leads to
 pub record Passing (s : Search) (bytes : List ℕ) (t : Search) (i : ℕ) : Type 0 where
-  pub is : afterLines t 0 (drop i bytes) ≡ afterLines s 0 bytes
+  pub is : afterRows t (rows (drop i bytes)) ≡ afterRows s (rows bytes)
 
 pub pass-none : (s : Search) (bytes : List ℕ) → Passing s bytes s 0
 pass-none s bytes = record { is = refl }
 
 module _ {s t : Search} {bytes : List ℕ} {i : ℕ} (c : Passing s bytes t i) where
   pub pass-more : {p : List ℕ} {u : Search} → i < length bytes → p ≡ take 52 (drop i bytes) → u ≡ afterLine t p → Passing s bytes u (i + 52)
-  pass-more h e d =
-      let l : 0 < length (drop i bytes) = rw length-drop (omega arith) in
-      record { is = ap₂ (λ v ys. afterLines v 0 ys) (d ∙ ap (afterLine t) e) (sym (drop-drop 52 i bytes)) ∙ sym (first-line t (drop i bytes) l) ∙ c .is }
+  unfolding afterRows
+  pass-more h e d = record { is = ap (λ v. afterRows v (rows (drop (i + 52) bytes))) (d ∙ ap (afterLine t) e) ∙ sym (ap (afterRows t) (rows-at bytes i h)) ∙ c .is }
 
-  pub pass-all : length bytes ≤ i → t ≡ afterLines s 0 bytes
-  unfolding afterLines
-  pass-all h = sym (ap (afterLines t 0) (drop-of-length-le bytes h)) ∙ c .is
+  pub pass-all : length bytes ≤ i → t ≡ afterRows s (rows bytes)
+  unfolding afterRows
+  pass-all h = sym (ap (afterRows t) (rows-none bytes i h)) ∙ c .is
 
 pub ruleset passes = (pass-none, pass-more, pass-all, needs)

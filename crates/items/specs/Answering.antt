@@ -1,4 +1,4 @@
--- What is answered to one who asks for an item, and the lent room after it.
+-- HOW THE ANSWER IS FOUND: what is told to one who asks for an item after the search, and the lent room then. What to believe of the answer is said in Promises.antt.
 use Prim.Native.Nat.{ℕ}
 use mathlib.Core.List.{List, _++_}
 use mathlib.Core.Bool.{Bool, true, false}
@@ -6,12 +6,13 @@ use lib.ListN.{length, drop}
 use lib.Dec.{leb, eqb}
 use Rattle.machine.specs.Lists.{pick}
 use Rattle.format.specs.Answers.{accepted, noRoom, noSuchItem}
+use Rattle.format.specs.Cutting.{rows}
 use Rattle.format.specs.declared.TypeRead.{TypeRead}
 use Rattle.format.specs.declared.TypeRead.the-variants.{Of, NoType}
 use Rattle.reading.specs.Check.{checkOf}
 use Rattle.reading.specs.declared.Answer.{Answer}
 use Rattle.descriptions.specs.Texts.{merged, limitFor}
-use Rattle.items.specs.Search.{noFields, started, afterLines}
+use Rattle.items.specs.Search.{noFields, started, afterRows}
 use Rattle.items.specs.declared.ItemFields.{ItemFields}
 use Rattle.items.specs.declared.Found.{Found}
 use Rattle.items.specs.declared.Search.{Search}
@@ -50,8 +51,8 @@ roomBy s a out =
 
 -- THE ANSWER to one who asks for an item of a file, with so much room
 unfoldable pub itemOf : List ℕ → ℕ → ℕ → ℕ → ItemRead
-itemOf file batch item room = answeredBy (afterLines (started batch item) 0 file) (checkOf file) room
+itemOf file batch item room = answeredBy (afterRows (started batch item) (rows file)) (checkOf file) room
 
 -- THE ROOM after it
 unfoldable pub roomAfter : List ℕ → ℕ → ℕ → List ℕ → List ℕ
-roomAfter file batch item out = roomBy (afterLines (started batch item) 0 file) (checkOf file) out
+roomAfter file batch item out = roomBy (afterRows (started batch item) (rows file)) (checkOf file) out

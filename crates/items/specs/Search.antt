@@ -1,5 +1,5 @@
--- The search for item k of batch b, each from 1, through a file's records.
-use Prim.Native.Nat.{ℕ, zero, suc, _-_}
+-- HOW THE ANSWER IS FOUND: the search for item k of batch b, each from 1, through a file's lines. What to believe of the answer is said in Promises.antt.
+use Prim.Native.Nat.{ℕ, _-_}
 use mathlib.Core.List.{List, [], _∷_, _++_}
 use mathlib.Core.Bool.{Bool, true, false, _||_}
 use lib.ListN.{take}
@@ -44,18 +44,18 @@ withFixed f t = record { fixed = withText (f .fixed) t; own = f .own; referred =
 abbrev pub withOwn : Found → List ℕ → Found
 withOwn f t = record { fixed = f .fixed; own = withText (f .own) t; referred = f .referred; fields = f .fields }
 
-abbrev referenceIn : ItemFields → List ℕ → ItemFields
-referenceIn x t = record { kind = x .kind; amount = x .amount; payer = x .payer; beneficiary = x .beneficiary; reference = filledTo 16 t; name = x .name }
+abbrev pub referenceIn : ItemFields → List ℕ → ItemFields
+referenceIn x t = record { kind = x .kind; amount = x .amount; payer = x .payer; beneficiary = x .beneficiary; reference = t; name = x .name }
 
 abbrev pub withReference : Found → List ℕ → Found
-withReference f t = record { fixed = f .fixed; own = f .own; referred = true; fields = referenceIn (f .fields) t }
+withReference f t = record { fixed = f .fixed; own = f .own; referred = true; fields = referenceIn (f .fields) (filledTo 16 t) }
 
-abbrev nameIn : ItemFields → List ℕ → ItemFields
-nameIn x t = record { kind = x .kind; amount = x .amount; payer = x .payer; beneficiary = x .beneficiary; reference = x .reference; name = filledTo 24 t }
+abbrev pub nameIn : ItemFields → List ℕ → ItemFields
+nameIn x t = record { kind = x .kind; amount = x .amount; payer = x .payer; beneficiary = x .beneficiary; reference = x .reference; name = t }
 
 -- 'the name's first 24 characters'
 abbrev pub withName : Found → List ℕ → Found
-withName f t = record { fixed = f .fixed; own = f .own; referred = f .referred; fields = nameIn (f .fields) t }
+withName f t = record { fixed = f .fixed; own = f .own; referred = f .referred; fields = nameIn (f .fields) (filledTo 24 t) }
 
 -- ## The search
 
@@ -115,8 +115,7 @@ afterLine s line =
     (pick (isHeader line) (headed s)
     s)))))
 
--- lines of 52 bytes, where k bytes of the line before are still to be passed
-unfoldable pub afterLines : Search → ℕ → List ℕ → Search
-afterLines s k [] = s
-afterLines s (suc k) (x ∷ xs) = afterLines s k xs
-afterLines s zero (x ∷ xs) = afterLines (afterLine s (take 52 (x ∷ xs))) 51 xs
+-- lines one after the other
+unfoldable pub afterRows : Search → List (List ℕ) → Search
+afterRows s [] = s
+afterRows s (line ∷ lines) = afterRows (afterLine s line) lines

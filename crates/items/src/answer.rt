@@ -8,9 +8,9 @@ use crate::Found;
 use crate::ItemRead;
 use crate::Search;
 use crate::no_fields;
-use crate::text::place;
 use descriptions::limit_for;
 use descriptions::merge;
+use field::bytes::put;
 use format::TypeRead;
 use reading::Answer;
 
@@ -64,7 +64,7 @@ impl Search {
                 return refusal(format::NO_ROOM, file.line, 0);
             }
             let texts = found.texts();
-            place(&texts, out);
+            put(&texts, 0, out);
             return ItemRead {
                 answer: 0,
                 line: file.line,

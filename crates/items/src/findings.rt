@@ -28,9 +28,8 @@ impl Found {
     pub(crate) fn with_item(self, t: Transaction) -> Found
         ensures { λ r. ⌜ r ≡ withItem self t ⌝ }
     {
-        let fixed = self.fixed;
-        let own = self.own;
-        let before = self.fields;
+        let mut found = self;
+        let before = found.fields;
         let reference = before.reference;
         let name = before.name;
         let kind = t.kind;
@@ -42,73 +41,48 @@ impl Found {
             reference,
             name,
         };
-        Found {
-            fixed,
-            own,
-            referred: self.referred,
-            fields,
-        }
+        found.fields = fields;
+        found
     }
 
     pub(crate) fn with_fixed(self, text: &[u8]) -> Found
         ensures { λ r. ⌜ r ≡ withFixed self (now (text .entry)) ⌝ }
     {
-        let before = self.fixed;
-        let fixed = before.with(text);
-        let own = self.own;
-        let fields = self.fields;
-        Found {
-            fixed,
-            own,
-            referred: self.referred,
-            fields,
-        }
+        let mut found = self;
+        let before = found.fixed;
+        found.fixed = before.with(text);
+        found
     }
 
     pub(crate) fn with_own(self, text: &[u8]) -> Found
         ensures { λ r. ⌜ r ≡ withOwn self (now (text .entry)) ⌝ }
     {
-        let fixed = self.fixed;
-        let before = self.own;
-        let own = before.with(text);
-        let fields = self.fields;
-        Found {
-            fixed,
-            own,
-            referred: self.referred,
-            fields,
-        }
+        let mut found = self;
+        let before = found.own;
+        found.own = before.with(text);
+        found
     }
 
     pub(crate) fn with_reference(self, text: &[u8]) -> Found
         ensures { λ r. ⌜ r ≡ withReference self (now (text .entry)) ⌝ }
     {
-        let fixed = self.fixed;
-        let own = self.own;
-        let mut fields = self.fields;
+        let mut found = self;
+        let mut fields = found.fields;
         let reference = first_16(text);
         fields.reference = reference;
-        Found {
-            fixed,
-            own,
-            referred: true,
-            fields,
-        }
+        found.fields = fields;
+        found.referred = true;
+        found
     }
 
     pub(crate) fn with_name(self, text: &[u8]) -> Found
         ensures { λ r. ⌜ r ≡ withName self (now (text .entry)) ⌝ }
     {
-        let fixed = self.fixed;
-        let own = self.own;
-        let mut fields = self.fields;
+        let mut found = self;
+        let mut fields = found.fields;
         let name = first_24(text);
         fields.name = name;
-        Found {
-            fixed,
-            own,
-            referred: self.referred,
-            fields,
-        }
+        found.fields = fields;
+        found
     }
 }

@@ -3,9 +3,10 @@ ghost use mathlib.Core.Path.{_≡_};
 ghost use Prim.Native.Nat.{_-_};
 ghost use lib.ListN.{take, drop};
 ghost use Rattle.machine.specs.Lists.{same};
+ghost use Rattle.format.specs.Cutting.{rows};
 ghost use Rattle.format.specs.declared.Kind.the-variants as kinds;
 ghost use Rattle.record.specs.Read.{transactionFor, valuesOf};
-ghost use Rattle.items.specs.Search.{started, finding, headed, opened, fixed, described, referred, named, isName, isHeader, afterLine, afterLines};
+ghost use Rattle.items.specs.Search.{started, headed, opened, fixed, described, referred, named, isName, isHeader, afterLine, afterRows};
 use crate::Found;
 use crate::Search;
 use field::bytes::is_same;
@@ -58,95 +59,73 @@ impl Search {
     fn headed(self) -> Search
         ensures { λ r. ⌜ r ≡ headed self ⌝ }
     {
-        let found = self.found;
-        let left = self.batches;
-        Search {
-            batches: less_one(left),
-            items: self.items,
-            within: left == 1,
-            here: false,
-            found,
-        }
+        let mut search = self;
+        let left = search.batches;
+        search.batches = less_one(left);
+        search.within = left == 1;
+        search.here = false;
+        search
     }
 
     // At a transaction, whose fields are read of the wanted item only.
     fn opened(self, line: &[u8]) -> Search
         ensures { λ r. ⌜ r ≡ opened self (transactionFor (valuesOf kinds.Transaction (now (line .entry)))) ⌝ }
     {
-        let found = self.found;
-        let left = self.items;
-        if self.within {
+        let mut search = self;
+        let left = search.items;
+        if search.within {
+            search.items = less_one(left);
+            search.here = left == 1;
             if left == 1 {
-                let more = found.with_item(transaction_at(line));
-                return Search {
-                    batches: self.batches,
-                    items: 0,
-                    within: true,
-                    here: true,
-                    found: more,
-                };
+                let found = search.found;
+                search.found = found.with_item(transaction_at(line));
             }
-            return Search {
-                batches: self.batches,
-                items: less_one(left),
-                within: true,
-                here: false,
-                found,
-            };
         }
-        self
-    }
-
-    fn finding(self, found: Found) -> Search
-        ensures { λ r. ⌜ r ≡ finding self found ⌝ }
-    {
-        Search {
-            batches: self.batches,
-            items: self.items,
-            within: self.within,
-            here: self.here,
-            found,
-        }
+        search
     }
 
     fn fixed(self, line: &[u8]) -> Search
         ensures { λ r. ⌜ r ≡ fixed self (take 32 (drop 5 (now (line .entry)))) ⌝ }
     {
-        let found = self.found;
-        if self.within {
-            return self.finding(found.with_fixed(part(line, 5, 32)));
+        let mut search = self;
+        if search.within {
+            let found = search.found;
+            search.found = found.with_fixed(part(line, 5, 32));
         }
-        self
+        search
     }
 
     fn described(self, line: &[u8]) -> Search
         ensures { λ r. ⌜ r ≡ described self (take 32 (drop 5 (now (line .entry)))) ⌝ }
     {
-        let found = self.found;
-        if self.here {
-            return self.finding(found.with_own(part(line, 5, 32)));
+        let mut search = self;
+        if search.here {
+            let found = search.found;
+            search.found = found.with_own(part(line, 5, 32));
         }
-        self
+        search
     }
 
     fn referred(self, line: &[u8]) -> Search
         ensures { λ r. ⌜ r ≡ referred self (take 16 (drop 5 (now (line .entry)))) ⌝ }
     {
-        let found = self.found;
-        if self.here {
-            return self.finding(found.with_reference(part(line, 5, 16)));
+        let mut search = self;
+        if search.here {
+            let found = search.found;
+            search.found = found.with_reference(part(line, 5, 16));
         }
-        self
+        search
     }
 
     fn named(self, line: &[u8]) -> Search
         ensures { λ r. ⌜ r ≡ named self (take 35 (drop 5 (now (line .entry)))) ⌝ }
     {
-        let found = self.found;
-        if self.here {
-            return self.finding(found.with_name(part(line, 5, 35)));
+        let mut search = self;
+        if search.here {
+            let found = search.found;
+            search.found = found.with_name(part(line, 5, 35));
         }
-        self
+        search
     }
 
     // A line, by the code and variant that it begins with. (The reader's own look-up is not called: a second caller would slow the reading of every line.)
@@ -176,7 +155,7 @@ impl Search {
 
     // All lines of some bytes.
     pub fn lines(self, bytes: &[u8]) -> Search
-        ensures { λ r. ⌜ r ≡ afterLines self 0 (now (bytes .entry)) ⌝ }
+        ensures { λ r. ⌜ r ≡ afterRows self (rows (now (bytes .entry))) ⌝ }
     {
         let mut search = self;
         let mut i: usize = 0;

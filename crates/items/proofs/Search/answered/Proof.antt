@@ -13,8 +13,8 @@ answered-spec =
     (λ c κs. search needs)  -- refusal-requires-2
     (λ c. (search rooms depth 20 fits 10000, search rooms depth 20 fits 10000))  -- returns-2
     (λ c κs. search needs)  -- texts-requires
-    (λ c. search needs)  -- slice-aggregate-place
-    (λ c κs. search needs)  -- place-requires
+    (λ c. search needs)  -- slice-aggregate-put
+    (λ c κs. search needs)  -- put-requires
     (λ c. search needs)  -- same-length
     (λ c. (search rooms depth 20 fits 10000, search rooms depth 20 fits 10000))  -- returns-3
     (λ c κs. search needs)  -- refusal-requires-3

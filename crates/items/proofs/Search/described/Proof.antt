@@ -9,7 +9,6 @@ described-spec =
     (tie.spec
     (λ c κs. search needs)  -- part-requires
     (λ c κs. search needs)  -- with-own-requires
-    (λ c κs. search needs)  -- finding-requires
     (λ c. search texts depth 20 fits 10000)  -- returns
     (λ c. search texts depth 20 fits 10000)  -- returns-2
     )

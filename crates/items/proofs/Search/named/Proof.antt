@@ -9,7 +9,6 @@ named-spec =
     (tie.spec
     (λ c κs. search needs)  -- part-requires
     (λ c κs. search needs)  -- with-name-requires
-    (λ c κs. search needs)  -- finding-requires
     (λ c. search texts depth 20 fits 10000)  -- returns
     (λ c. search texts depth 20 fits 10000)  -- returns-2
     )

@@ -7,10 +7,10 @@ pub opened-spec : {M : Type 1} → statement M
 opened-spec =
     tie.close
     (tie.spec
+    (λ c κs. search needs)  -- less-one-requires
     (λ c κs. search needs)  -- transaction-at-requires
     (λ c κs. search needs)  -- with-item-requires
     (λ c. search opens depth 20 fits 10000)  -- returns
-    (λ c κs. search needs)  -- less-one-requires
     (λ c. search opens depth 20 fits 10000)  -- returns-2
     (λ c. search opens depth 20 fits 10000)  -- returns-3
     )

@@ -9,7 +9,6 @@ referred-spec =
     (tie.spec
     (λ c κs. search needs)  -- part-requires
     (λ c κs. search needs)  -- with-reference-requires
-    (λ c κs. search needs)  -- finding-requires
     (λ c. search texts depth 20 fits 10000)  -- returns
     (λ c. search texts depth 20 fits 10000)  -- returns-2
     )

@@ -8,7 +8,7 @@ first-24-spec =
     tie.close
     (tie.spec
     (λ c κs. search needs)  -- part-requires
-    (λ c. search needs)  -- slice-aggregate-place
-    (λ c κs. search firsts depth 20 fits 10000)  -- place-requires
+    (λ c. search needs)  -- slice-aggregate-put
+    (λ c κs. search needs)  -- put-requires
     (λ c. search firsts depth 20 fits 10000)  -- returns
     )
