@@ -8,16 +8,18 @@ use native.Mathlib.Omega.{arith}
 use borrow.Author.Needs.{needs}
 use borrow.Author.Tests.{eq-eqb, ne-eqb, eqb-false, le-leb, lt-leb}
 use lib.ListN.{length, take, drop, length-append, length-drop, drop-of-length-le}
-use lib.Seq.{paste, take-all, take-at, length-take-le, take-paste, drop-paste, drop-drop}
+use lib.Seq.{take-at, length-take-le}
 use lib.Dec.{leb, eqb}
-use Rattle.machine.specs.Lists.{pick}
+use Rattle.machine.specs.Lists.{pick, placed, putIn}
+use Rattle.format.specs.Cutting.{rows}
 use Rattle.format.specs.declared.TransactionType.{TransactionType}
 use Rattle.format.specs.declared.TypeRead.{TypeRead}
 use Rattle.format.specs.declared.TypeRead.the-variants.{Of}
+use Rattle.field.proofs.Putting.{put-fits, length-placed, placed-both}
 use Rattle.reading.specs.Check.{checkOf}
 use Rattle.reading.specs.declared.Answer.{Answer}
 use Rattle.record.proofs.Typing.{of-case}
-use Rattle.items.specs.Search.{noFields, started, afterLines}
+use Rattle.items.specs.Search.{noFields, started, afterRows}
 use Rattle.items.specs.Answering.{told, isFound, answeredBy, roomBy, itemOf, roomAfter}
 use Rattle.items.specs.Promises.{Promised, ItemAt, handedOut, roomWith, textsFor, itemAt}
 use Rattle.items.specs.declared.ItemRead.{ItemRead}
@@ -45,30 +47,21 @@ pub ruleset numbers = (item-unplaced, item-put, needs)
 
 -- ## Texts
 
-module _ {t : List ℕ} (x y texts : List ℕ) (h : length x ≡ 16) (k : length y ≡ 24) (l : 168 ≤ length texts) (e : t ≡ paste texts 128 x (length x)) where
-  at-16 : t ≡ paste texts 128 x 16
-  at-16 = e ∙ ap (paste texts 128 x) h
-
-  front : take 144 t ≡ take 128 texts ++ x
-  front =
-      ap (take 144) at-16 ∙ take-paste texts 128 x 16 (omega arith) (omega (arith, h)) ∙ ap (λ z. take 128 texts ++ z) (take-all 16 x (omega (arith, h)))
-
-  back : drop 168 t ≡ drop 168 texts
-  back =
-      sym (drop-drop 24 144 t) ∙ ap (λ z. drop 24 (drop 144 z)) at-16 ∙ ap (drop 24) (drop-paste texts 128 x 16 (omega arith) (omega (arith, h))) ∙ drop-drop 24 144 texts
-
-  pub texts-put : {u : List ℕ} → u ≡ paste t 144 y (length y) → u ≡ textsWith x y texts
-  unfolding textsWith
-  texts-put f =
-      f ∙ ap (paste t 144 y) k ∙ ap₂ (λ z w. (z ++ w) ++ drop 168 t) front (take-all 24 y (omega (arith, k))) ∙ ap (λ z. ((take 128 texts ++ x) ++ y) ++ z) back
+pub texts-put : {t u : List ℕ} (x y texts : List ℕ) → length x ≡ 16 → length y ≡ 24 → 168 ≤ length texts → t ≡ putIn texts 128 x → u ≡ putIn t 144 y → u ≡ textsWith x y texts
+unfolding textsWith
+texts-put {t} x y texts h k l e f =
+    let p = put-fits texts 128 x (omega (arith, h)) e in
+    let n = ap length p ∙ length-placed texts 128 x (omega (arith, h)) in
+    let a : 144 ≡ 128 + length x = omega (arith, h) in
+    put-fits t 144 y (omega (arith, k, n)) f ∙ ap₂ (λ z m. placed z m y) p a ∙ placed-both texts 128 x y (omega (arith, h))
 
 pub ruleset texts = (texts-put, needs)
 
 texts-first : (x y t : List ℕ) → 128 ≤ length t → take 128 (textsWith x y t) ≡ take 128 t
-unfolding textsWith
+unfolding textsWith placed
 texts-first x y t l =
-    ap (take 128) (append-assoc (take 128 t ++ x) y (drop 168 t) ∙ append-assoc (take 128 t) x (y ++ drop 168 t))
-    ∙ take-at (take 128 t) (x ++ (y ++ drop 168 t)) 128 (length-take-le 128 t l)
+    let rest : List ℕ = drop (128 + length (x ++ y)) t in
+    ap (take 128) (append-assoc (take 128 t) (x ++ y) rest) ∙ take-at (take 128 t) ((x ++ y) ++ rest) 128 (length-take-le 128 t l)
 
 -- ## Without room
 
@@ -85,7 +78,7 @@ lacking a q false e w = eqb-false (a .number) 0 e w
 
 lacking-refused : (file : List ℕ) (batch item : ℕ) → itemOf file batch item 0 .answer ≡ 0 → ⊥
 unfolding itemOf answeredBy pick
-lacking-refused file batch item = lacking (checkOf file) (isFound (afterLines (started batch item) 0 file .found .fields .kind)) (eqb (checkOf file .number) 0) refl
+lacking-refused file batch item = lacking (checkOf file) (isFound (afterRows (started batch item) (rows file) .found .fields .kind)) (eqb (checkOf file .number) 0) refl
 
 module _ {r : ItemRead} (file : List ℕ) (batch item places : ℕ) (e : r ≡ itemOf file batch item 0) where
   pub asked-unplaced : (room : ℕ) → places < 6 → r ≡ itemAsked file batch item room places
@@ -129,7 +122,7 @@ kept-by false q w x y i j k l z h = refl
 refused-kept : (file : List ℕ) (batch item : ℕ) (out : List ℕ) → (itemOf file batch item (length out) .answer ≡ 0 → ⊥) → roomAfter file batch item out ≡ out
 unfolding itemOf answeredBy roomAfter roomBy
 refused-kept file batch item out h =
-    kept-by (eqb (checkOf file .number) 0) (isFound (afterLines (started batch item) 0 file .found .fields .kind)) (leb 128 (length out)) _ out _ _ _ _ refl h
+    kept-by (eqb (checkOf file .number) 0) (isFound (afterRows (started batch item) (rows file) .found .fields .kind)) (leb 128 (length out)) _ out _ _ _ _ refl h
 
 module _ {r : ItemRead} {places : ℕ} (file : List ℕ) (batch item : ℕ) (texts : List ℕ) (h : 6 ≤ places) (k : 168 ≤ length texts) (e : r ≡ itemOf file batch item (length texts)) where
   pub asked : r ≡ itemAsked file batch item (length texts) places

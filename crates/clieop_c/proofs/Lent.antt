@@ -1,21 +1,19 @@
 -- Numbers returned, and numbers put at the front of a place. Assumes nothing.
 use Prim.Native.Nat.{ℕ, _+_, _≤_, _<_}
-use mathlib.Core.Path.{_≡_, refl, sym, ap, ap₂, subst, _∙_}
+use mathlib.Core.Path.{_≡_, refl, sym, ap, subst, _∙_}
 use mathlib.Core.List.{List, [], _∷_, _++_}
 use mathlib.Core.Bool.{Bool, true, false}
 use native.Mathlib.Omega.{arith}
 use borrow.Author.Needs.{needs}
 use borrow.Author.Tests.{eq-eqb, ne-eqb, le-leb, lt-leb}
 use lib.ListN.{length, getD, set, drop}
-use lib.Seq.{take-all}
-use lib.Dec.{leb}
 use Rattle.machine.specs.Lists.{pick}
+use Rattle.field.proofs.Putting.{Putting, put-none, put-more, put-in, put-all, put-kept, placed-front}
 use Rattle.reading.specs.Check.{checkOf}
 use Rattle.reading.specs.declared.Answer.{Answer}
 use Rattle.theorem.specs.Meaning.{Means}
 use Rattle.rewriting.specs.Rewriting.{rewrittenOf, roomAfter}
 use Rattle.rewriting.specs.Promises.{Promised}
-use Rattle.rewriting.proofs.Copying.{Placing, place-none, place-more, place-in, place-all}
 use Rattle.rewriting.specs.declared.Rewritten.{Rewritten}
 use Rattle.clieop_c.specs.Places.{numberFor, checkNumber, checkPlace, rewriteNumber, rewritePlace, rewriteRoom}
 
@@ -37,31 +35,18 @@ pub ruleset numbers = (number-with, number-without, number-refused, needs)
 
 -- ## Places
 
--- i of the numbers are put
-pub record Putting (o ns place : List ℕ) (i : ℕ) : Type 0 where
-  pub placing : Placing o ns place 0 i
+-- numbers at the front, one after the other
+module _ {o ns place : List ℕ} {i : ℕ} (p : Putting o ns place 0 i) where
+  pub front-more : i < length ns → Putting o ns (set place i (getD ns i 0)) 0 (i + 1)
+  front-more k = let e : 0 + i ≡ i = omega arith in subst (λ j. Putting o ns (set place j (getD ns i 0)) 0 (i + 1)) e (put-more p k)
 
-pub put-none : (o ns : List ℕ) → length ns ≤ length o → Putting o ns o 0
-put-none o ns h = record { placing = place-none o ns 0 (omega arith) }
+  pub front-in : i < length ns → i < length place
+  front-in k = omega (arith, put-in p k)
 
-module _ {o ns place : List ℕ} {i : ℕ} (p : Putting o ns place i) where
-  pub put-more : i < length ns → Putting o ns (set place i (getD ns i 0)) (i + 1)
-  put-more k =
-      let e : 0 + i ≡ i = omega arith in
-      record { placing = subst (λ j. Placing o ns (set place j (getD ns i 0)) 0 (i + 1)) e (place-more (p .placing) k) }
+  pub front-all : length ns ≤ i → place ≡ ns ++ drop (length ns) o
+  front-all k = put-all p k ∙ placed-front o ns
 
-  pub put-in : i < length ns → i < length place
-  put-in k = omega (arith, place-in (p .placing) k)
-
-  pub put-all : length ns ≤ i → place ≡ ns ++ drop (length ns) o
-  put-all k =
-      let e : 0 + length ns ≡ length ns = omega arith in
-      place-all (p .placing) k ∙ ap₂ (λ x n. x ++ drop n o) (take-all (length ns) ns (omega arith)) e
-
-  pub put-kept : length place ≡ length o
-  put-kept = p .placing .kept
-
-pub ruleset puts = (put-none, put-more, put-in, put-all, put-kept, needs)
+pub ruleset puts = (put-none, front-more, front-in, front-all, put-kept, needs)
 
 -- ## The answer of a file
 

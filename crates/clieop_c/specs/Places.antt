@@ -4,7 +4,7 @@ use mathlib.Core.List.{List, _∷_, _++_}
 use mathlib.Core.Bool.{Bool, false}
 use lib.ListN.{length, take, drop}
 use lib.Dec.{leb, eqb}
-use Rattle.machine.specs.Lists.{pick}
+use Rattle.machine.specs.Lists.{pick, placed}
 use Rattle.machine.specs.Digits.{valueOf}
 use Rattle.format.specs.Answers.{accepted, noRoom}
 use Rattle.format.specs.Rules.{typeText}
@@ -64,7 +64,7 @@ itemPlace r place = pick (leb 6 (length place)) (numbersOf r (drop 6 place)) pla
 
 -- the reference and the name behind the 128 bytes of the descriptions
 unfoldable pub textsWith : List ℕ → List ℕ → List ℕ → List ℕ
-textsWith reference name texts = take 128 texts ++ reference ++ name ++ drop 168 texts
+textsWith reference name texts = placed texts 128 (reference ++ name)
 
 abbrev pub textsBy : ItemRead → List ℕ → List ℕ → List ℕ
 textsBy r texts described = pick (eqb (r .answer) accepted) (textsWith (r .fields .reference) (r .fields .name) described) texts

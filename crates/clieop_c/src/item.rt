@@ -1,11 +1,11 @@
 // An item of a file, for other languages.
 ghost use mathlib.Core.Path.{_≡_};
-ghost use Prim.Native.Nat.{_+_, _≤_};
+ghost use Prim.Native.Nat.{_≤_};
 ghost use lib.ListN.{length};
-ghost use lib.Seq.{paste};
 ghost use Rattle.items.specs.Answering.{itemOf};
 ghost use Rattle.clieop_c.specs.Places.{typeNumber, numberOf, itemAsked, itemPlace, textsWith, itemTexts, ItemPromised};
 use crate::put_numbers;
+use field::bytes::put;
 use format::TransactionType;
 use format::TypeRead;
 use items::ItemRead;
@@ -55,25 +55,13 @@ fn put_item(r: ItemRead, place: &mut [u64])
     );
 }
 
-// A text at a place of the room.
-fn put_text(text: &[u8], at: usize, texts: &mut [u8])
-    requires { ⌜ at + length (now text) ≤ length (now texts) ⌝ }
-    ensures { λ _. ⌜ now (texts .exit) ≡ paste (now (texts .entry)) at (now (text .entry)) (length (now (text .entry))) ⌝ }
-{
-    let mut i: usize = 0;
-    while i < text.len() {
-        texts[at + i] = text[i];
-        i += 1;
-    }
-}
-
 // The reference and the name, behind the descriptions.
 fn put_texts(reference: [u8; 16], name: [u8; 24], texts: &mut [u8])
     requires { ⌜ 168 ≤ length (now texts) ⌝ }
     ensures { λ _. ⌜ now (texts .exit) ≡ textsWith reference name (now (texts .entry)) ⌝ }
 {
-    put_text(&reference, 128, texts);
-    put_text(&name, 144, texts);
+    put(&reference, 128, texts);
+    put(&name, 144, texts);
 }
 
 // What is answered without room for the item.

@@ -1,4 +1,3 @@
-use borrow.Author.Needs.{needs}
 use Rattle.clieop_c.proofs.Lent.{numbers}
 use Rattle.clieop_c.proofs.number_for.Statement.{statement}
 use Rattle.clieop_c.proofs.number_for.Tie as tie

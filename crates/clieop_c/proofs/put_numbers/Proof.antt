@@ -1,11 +1,12 @@
 use Prim.Native.Nat.{_-_}
 use lib.ListN.{length}
-use Rattle.clieop_c.proofs.Lent.{puts, Putting}
+use Rattle.field.proofs.Putting.{Putting}
+use Rattle.clieop_c.proofs.Lent.{puts}
 use Rattle.clieop_c.proofs.put_numbers.Statement.{statement}
 use Rattle.clieop_c.proofs.put_numbers.Tie as tie
 
 abbrev Inv-loop : tie.InvT-loop
-Inv-loop numbers place₀ i₀ place i = Putting place₀ numbers place i
+Inv-loop numbers place₀ i₀ place i = Putting place₀ numbers place 0 i
 
 abbrev μ-loop : tie.MeasureT-loop
 μ-loop numbers place₀ i₀ place i = length numbers - i

@@ -7,10 +7,10 @@ pub put-texts-spec : {M : Type 1} → statement M
 put-texts-spec =
     tie.close
     (tie.spec
-    (λ c. search needs)  -- slice-aggregate-put-text
-    (λ c κs. search needs)  -- put-text-requires
-    (λ c. search needs)  -- slice-aggregate-put-text-2
-    (λ c κs. search needs)  -- put-text-requires-2
+    (λ c. search needs)  -- slice-aggregate-put
+    (λ c κs. search needs)  -- put-requires
+    (λ c. search needs)  -- slice-aggregate-put-2
+    (λ c κs. search needs)  -- put-requires-2
     (λ c. search needs)  -- same-length
     (λ c. search texts depth 20 fits 10000)  -- returns
     )
