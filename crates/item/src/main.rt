@@ -189,7 +189,7 @@ fn seek_in_file(fd: i32, name: &[u8], several: bool, wanted: Search) {
 fn seek_in_input(i: usize, several: bool, wanted: Search) {
     let mut name = io::buffer();
     let input = streams::open(i, &mut name);
-    let n = input.name;
+    let n = input.characters;
     if 0 <= input.fd {
         seek_in_file(input.fd, &name[..n], several, wanted);
         libc::close(input.fd);

@@ -182,7 +182,7 @@ fn list_file(fd: i32, name: &[u8], several: bool, page: &mut [u8]) {
 fn list_input(i: usize, several: bool, page: &mut [u8]) {
     let mut name = io::buffer();
     let input = streams::open(i, &mut name);
-    let n = input.name;
+    let n = input.characters;
     if 0 <= input.fd {
         list_file(input.fd, &name[..n], several, page);
         libc::close(input.fd);

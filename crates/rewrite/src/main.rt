@@ -16,7 +16,7 @@ struct Copied {
     line: u64,
     column: u8,
     reader: State,
-    written: State,
+    writer: State,
     at: usize,
     more: bool,
     failed: bool,
@@ -81,15 +81,15 @@ fn entry_of(read: Record) -> Again {
     }
 }
 
-// A record onto the page, which has room for every line of a buffer. That the writer refuses nothing here is proved; if it did, its
-// answer would be the file's.
+// A record onto the page, which has room for every line of a buffer. The writer refuses nothing here (docs/DECISIONS.md, 25); if it did,
+// its answer would be the file's.
 fn put_entry(before: Copied, entry: Entry, text: [u8; 35], page: &mut [u8]) -> Copied {
     let mut copied = before;
     let at = before.at;
     if page.len() < at {
         return copied;
     }
-    let state = before.written;
+    let state = before.writer;
     let w = writer::write(state, entry, text, &mut page[at..]);
     if w.answer != 0 {
         copied.answer = w.answer;
@@ -98,7 +98,7 @@ fn put_entry(before: Copied, entry: Entry, text: [u8; 35], page: &mut [u8]) -> C
         return copied;
     }
     let next = w.next;
-    copied.written = next;
+    copied.writer = next;
     copied.at = at + 52;
     copied
 }
@@ -186,13 +186,13 @@ fn tell(copied: Copied, name: &[u8], several: bool) {
 
 fn copy_file(fd: i32, name: &[u8], several: bool, page: &mut [u8]) {
     let reader = State::start();
-    let written = State::start();
+    let writer = State::start();
     let copied = Copied {
         answer: 0,
         line: 0,
         column: 0,
         reader,
-        written,
+        writer,
         at: 0,
         more: true,
         failed: false,
@@ -208,7 +208,7 @@ fn copy_file(fd: i32, name: &[u8], several: bool, page: &mut [u8]) {
 fn copy_input(i: usize, several: bool, page: &mut [u8]) {
     let mut name = io::buffer();
     let input = streams::open(i, &mut name);
-    let n = input.name;
+    let n = input.characters;
     if 0 <= input.fd {
         copy_file(input.fd, &name[..n], several, page);
         libc::close(input.fd);

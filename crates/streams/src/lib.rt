@@ -6,10 +6,10 @@ ghost use lib.ListN.{length};
 ghost use Rattle.io.specs.Counts.{Counts};
 use libc::STDIN_FILENO;
 
-// An input: its descriptor, which is negative where it cannot be opened, and how long its name is.
+// An input: its descriptor, which is negative where it cannot be opened, and how many characters its name has.
 pub struct Input {
     pub fd: i32,
-    pub name: usize,
+    pub characters: usize,
 }
 
 // How many bytes of a buffer were read, and whether a read failed.
@@ -29,22 +29,22 @@ fn open_named(name: &[u8]) -> i32 {
 // Opens the file that argument i names, and puts the name at the start of the buffer. Without argument i it is standard input, whose
 // name is empty.
 pub fn open(i: usize, name: &mut [u8]) -> Input
-    ensures { λ r. ⌜ Counts (r .name) (now (name .exit)) ⌝ }
+    ensures { λ r. ⌜ Counts (r .characters) (now (name .exit)) ⌝ }
 {
     let n = os::arg(i, name);
     let error = os::errno();
     if error == libc::EINVAL {
         return Input {
             fd: STDIN_FILENO,
-            name: n,
+            characters: n,
         };
     }
     if error != 0 {
         os::fail(b"file name");
-        return Input { fd: -1, name: n };
+        return Input { fd: -1, characters: n };
     }
     let fd = open_named(&name[..n]);
-    Input { fd, name: n }
+    Input { fd, characters: n }
 }
 
 fn tell(name: &[u8]) {
