@@ -1,24 +1,26 @@
 -- The line reader and the whole file over the lines judged. Assumes nothing.
-use Prim.Native.Nat.{ℕ, zero, suc, _+_, _≤_, _<_}
+use Prim.Native.Nat.{ℕ, _+_, _≤_, _<_}
 use mathlib.Core.Path.{_≡_, refl, sym, ap, _∙_, subst}
 use mathlib.Core.List.{List, [], _∷_}
 use mathlib.Core.Bool.{Bool, true, false}
 use native.Mathlib.Omega.{arith}
 use borrow.Author.Tests.{eq-eqb, ne-eqb, leb-true}
-use lib.ListN.{length, take, drop}
+use lib.ListN.{length, take, length-take}
 use lib.Dec.{T, eqb, leb}
 use mir.Val.{Fits}
 use mir.Syntax.{w64}
 use Rattle.machine.specs.Lists.{pick}
+use Rattle.format.specs.Cutting.{rows}
 use Rattle.format.specs.declared.Kind.{Kind}
 use Rattle.format.specs.declared.Code.{Code}
 use Rattle.format.specs.declared.Code.the-variants.{Of, Unknown}
+use Rattle.format.proofs.ByRows.{rows-none}
 use Rattle.record.specs.Faults.{fieldsOf, faultOf}
 use Rattle.record.specs.Read.{recordFor, textFor, valuesOf}
 use Rattle.record.specs.declared.Record.{Record}
 use Rattle.reading.specs.State.{startState, isKept, within}
-use Rattle.reading.specs.Step.{refused, taken, judgedFirst, refusalLine, nothingRead, readBy, endedAt, stepAt}
-use Rattle.reading.specs.Check.{linesFrom, linesOf, answerOf, answerBy, checkOf}
+use Rattle.reading.specs.Step.{refused, judgedFirst, refusalLine, nothingRead, readBy, endedAt, stepAt}
+use Rattle.reading.specs.Check.{linesBy, linesOf, answerOf, answerBy, checkOf}
 use Rattle.reading.specs.declared.State.{State}
 use Rattle.reading.specs.declared.Judged.{Judged}
 use Rattle.reading.specs.declared.LineRead.{LineRead}
@@ -26,36 +28,26 @@ use Rattle.reading.specs.declared.Answer.{Answer}
 use Rattle.record.proofs.Reading.{valued}
 use Rattle.reading.proofs.Limits.{within-line}
 use Rattle.reading.proofs.Judgements.{first-beyond}
-use Rattle.reading.proofs.Running.{skip, first-52}
+use Rattle.reading.proofs.Running.{first-52, goingOn, lines-on}
 use Rattle.reading.proofs.Verdicts.{First, beyond, halted, moved, first}
 
 -- ## The lines of a first line's bytes
-
-drop-take : (n : ℕ) (xs : List ℕ) → drop n (take n xs) ≡ []
-drop-take zero xs = refl
-drop-take (suc n) [] = refl
-drop-take (suc n) (x ∷ xs) = drop-take n xs
 
 either-way : (b : Bool) (j : Judged) → pick b j j ≡ j
 unfolding pick
 either-way true j = refl
 either-way false j = refl
 
-one-line : (s : State) (x : ℕ) (xs : List ℕ) → linesFrom (refused s 0 0) 0 (take 52 (x ∷ xs)) ≡ judgedFirst s (x ∷ xs)
-unfolding linesFrom
-one-line s x xs =
-    let j = judgedFirst s (x ∷ take 51 xs) in
-    ap (λ (i : Judged). pick (eqb (j .number) 0) i j) (skip j 51 (take 51 xs) ∙ ap (linesFrom j 0) (drop-take 51 xs))
-    ∙ either-way (eqb (j .number) 0) j ∙ first-52 s (x ∷ xs)
-
 lines-first : (s : State) (xs : List ℕ) → 0 < length xs → linesOf s (take 52 xs) ≡ judgedFirst s xs
-unfolding linesOf pick
-lines-first s [] h = absurd (omega arith)
-lines-first s (x ∷ xs) h = by (within s) refl
+unfolding linesOf linesBy pick
+lines-first s xs h = by (within s) refl
   where
-    by : (q : Bool) → within s ≡ q → pick q (linesFrom (refused s 0 0) 0 (take 52 (x ∷ xs))) (refused s 0 24) ≡ judgedFirst s (x ∷ xs)
-    by true w = one-line s x xs
-    by false w = first-beyond s (x ∷ xs) w refl
+    by : (q : Bool) → within s ≡ q → pick q (linesBy (refused s 0 0) (rows (take 52 xs))) (refused s 0 24) ≡ judgedFirst s xs
+    by true w =
+        let j = judgedFirst s (take 52 xs) in
+        lines-on (refused s 0 0) (take 52 xs) (rw length-take (omega arith))
+        ∙ ap (goingOn j) (rows-none (take 52 xs) 52 (rw length-take (omega arith))) ∙ either-way (eqb (j .number) 0) j ∙ first-52 s xs
+    by false w = first-beyond s xs w refl
 
 pub step-first : (s : State) (xs : List ℕ) → 0 < length xs → stepAt s xs ≡ readBy (take 50 xs) (judgedFirst s xs .code) (judgedFirst s xs)
 unfolding stepAt
@@ -137,17 +129,16 @@ unfolding pick
 either-named true i j a b = a
 either-named false i j a b = b
 
-lines-named : (j : Judged) (k : ℕ) (xs : List ℕ) → Named j → Named (linesFrom j k xs)
-unfolding linesFrom
-lines-named j k [] p = p
-lines-named j (suc k) (x ∷ xs) p = lines-named j k xs p
-lines-named j zero (x ∷ xs) p =
-    let i = judgedFirst (j .next) (x ∷ xs) in
-    let n = first-named (first (j .next) (x ∷ xs)) in
-    either-named (eqb (i .number) 0) (linesFrom i 51 xs) i (lines-named i 51 xs n) n
+lines-named : (j : Judged) (lines : List (List ℕ)) → Named j → Named (linesBy j lines)
+unfolding linesBy
+lines-named j [] p = p
+lines-named j (line ∷ lines) p =
+    let i = judgedFirst (j .next) line in
+    let n = first-named (first (j .next) line) in
+    either-named (eqb (i .number) 0) (linesBy i lines) i (lines-named i lines n) n
 
 module _ {j : Judged} {s : State} (file : List ℕ) (b : s ≡ startState) (e : j ≡ linesOf s file) where
-  is-run : j ≡ linesFrom (refused startState 0 0) 0 file
+  is-run : j ≡ linesBy (refused startState 0 0) (rows file)
   unfolding linesOf within isKept pick
   is-run = e ∙ ap (λ u. linesOf u file) b
 
@@ -155,7 +146,7 @@ module _ {j : Judged} {s : State} (file : List ℕ) (b : s ≡ startState) (e : 
   is-file = e ∙ ap (λ u. linesOf u file) b
 
   pub file-named : (j .number ≡ 0 → ⊥) → refusalLine (j .number) (j .next .line) ≤ 6999369996
-  file-named z = name-small (j .number) (j .next .line) (subst Named (sym is-run) (lines-named (refused startState 0 0) 0 file (λ z n. absurd (z refl))) z)
+  file-named z = name-small (j .number) (j .next .line) (subst Named (sym is-run) (lines-named (refused startState 0 0) (rows file) (λ z n. absurd (z refl))) z)
 
   pub file-stop : {l : ℕ} → (j .number ≡ 0 → ⊥) → l ≡ refusalLine (j .number) (j .next .line) → _≡_ {A = Answer} (record { number = j .number; line = l; column = j .column }) (checkOf file)
   unfolding checkOf pick

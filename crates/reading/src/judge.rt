@@ -1,13 +1,12 @@
 // The judging of lines. Each function that takes the state has one caller, so that the compiler puts them all into the loop of `run`; whoever judges a line calls `lines`.
 ghost use mathlib.Core.Path.{_≡_};
-ghost use mathlib.Core.Bool.{true};
 ghost use Prim.Native.Nat.{_≤_};
-ghost use lib.ListN.{take, drop};
+ghost use Rattle.format.specs.Cutting.{rows};
 ghost use Rattle.format.specs.declared.Kind.the-variants.{Transaction};
 ghost use Rattle.reading.specs.State.{Kept, maxLine, isKept, within};
 ghost use Rattle.reading.specs.Order.{isTransaction};
 ghost use Rattle.reading.specs.Step.{refused, judgedAs, judgedKind, judgedLine, isWhole, judgedFirst};
-ghost use Rattle.reading.specs.Check.{linesFrom, linesOf};
+ghost use Rattle.reading.specs.Check.{linesBy, linesOf};
 use crate::Judged;
 use crate::Stage;
 use crate::State;
@@ -195,7 +194,7 @@ fn is_kept(s: State) -> bool
 
 fn run(start: State, bytes: &[u8]) -> Judged
     requires { ⌜ Kept start ⌝ }
-    ensures { λ r. ⌜ r ≡ linesFrom (refused start 0 0) 0 (now (bytes .entry)) ⌝ }
+    ensures { λ r. ⌜ r ≡ linesBy (refused start 0 0) (rows (now (bytes .entry))) ⌝ }
 {
     let mut last = start.refused(0, 0);
     let mut at = 0;
@@ -214,4 +213,3 @@ pub(crate) fn is_within(s: State) -> bool
 {
     (s.line <= State::MAX_LINE) & is_kept(s)
 }
-

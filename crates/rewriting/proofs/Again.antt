@@ -1,16 +1,16 @@
 -- A file without its cities is accepted again, and is what the writer writes. Assumes nothing.
-use Prim.Native.Nat.{ℕ, zero, suc, _+_, _≤_, _<_}
+use Prim.Native.Nat.{ℕ, zero, suc, _+_}
 use mathlib.Core.Path.{_≡_, refl, sym, ap, ap₂, _∙_, subst}
 use mathlib.Core.List.{List, [], _∷_, _++_}
 use mathlib.Core.Bool.{Bool, true, false, not, _&&_}
 use mathlib.Core.Option.{Option, none, some}
 use native.Mathlib.Omega.{arith}
-use borrow.Author.Tests.{eq-eqb, eqb-true, leb-true}
-use lib.ListN.{length, take, drop, take-append-drop, length-append}
-use lib.Seq.{take-at, drop-at, length-take-le}
+use borrow.Author.Tests.{eq-eqb, eqb-true}
+use lib.ListN.{length, take, drop, take-append-drop}
+use lib.Seq.{take-at, length-take-le}
 use lib.Dec.{T, eqb}
 use Rattle.machine.specs.Lists.{pick, placed}
-use Rattle.machine.proofs.Base.{and-first, true≢false}
+use Rattle.machine.proofs.Base.{true≢false}
 use Rattle.format.specs.Cutting.{rowsFrom, rows}
 use Rattle.format.specs.Records.{Fields}
 use Rattle.format.specs.declared.Kind.{Kind}
@@ -21,15 +21,14 @@ use Rattle.field.proofs.Putting.{placed-front}
 use Rattle.record.specs.Faults.{fieldsOf}
 use Rattle.record.specs.Read.{recordFor}
 use Rattle.reading.specs.State.{startState, isKept, within}
-use Rattle.reading.specs.Step.{nextFor, refused, taken, isWhole, isDone, judgedFirst, nothingRead, readBy, endedAt, refusalLine, stepAt}
-use Rattle.reading.specs.Check.{linesFrom, linesOf, answerOf, answerBy, checkOf}
+use Rattle.reading.specs.Step.{nextFor, refused, taken, isDone, judgedFirst, nothingRead, readBy, endedAt, refusalLine, stepAt}
+use Rattle.reading.specs.Check.{linesBy, linesOf, answerOf, answerBy, checkOf}
 use Rattle.reading.specs.declared.Name.the-variants.{Unwanted}
 use Rattle.reading.specs.declared.State.{State}
 use Rattle.reading.specs.declared.Judged.{Judged}
 use Rattle.reading.specs.declared.LineRead.{LineRead}
 use Rattle.reading.specs.declared.Answer.{Answer}
-use Rattle.reading.proofs.Running.{first-52}
-use Rattle.reading.proofs.Running as running
+use Rattle.reading.proofs.Running.{whole-long, first-52, goingOn}
 use Rattle.reading.proofs.Verdicts.{Taken, takes}
 use Rattle.writer.specs.Entries.{lineFor}
 use Rattle.writer.specs.Writing.{answered, writtenOf}
@@ -44,111 +43,84 @@ use Rattle.rewriting.specs.Promises.{noCity, Rewrites, ended, city, writ
 use Rattle.rewriting.specs.declared.Rewritten.{Rewritten}
 use Rattle.rewriting.proofs.Behind.{isCityKind, Behind, alike, within-behind, taken-too, behind-too, behind-city, city-kind}
 
--- ## A line kept or not
-
-line-city : (l : List ℕ) → isCity l ≡ true → keptLine l ≡ []
-unfolding keptLine pick
-line-city l h = rw h
-
-line-kept : (l : List ℕ) → isCity l ≡ false → keptLine l ≡ l
-unfolding keptLine pick
-line-kept l h = rw h
+-- ## The same file
 
 -- a file without cities stays
 no-city : (k : ℕ) (xs : List ℕ) → noCity (rowsFrom k xs) ≡ true → keptOf (rowsFrom k xs) ≡ drop k xs
-unfolding noCity keptOf rowsFrom
+unfolding noCity keptOf keptLine pick rowsFrom
 no-city zero [] h = refl
 no-city (suc k) [] h = refl
 no-city (suc k) (x ∷ xs) h = no-city k xs h
-no-city zero (x ∷ xs) h = on (isCity (take 52 (x ∷ xs))) refl h (λ r. no-city 51 xs r)
+no-city zero (x ∷ xs) h = on (isCity (take 52 (x ∷ xs))) h (λ r. no-city 51 xs r)
   where
-    on : (q : Bool) → isCity (take 52 (x ∷ xs)) ≡ q → (not q && noCity (rowsFrom 51 xs)) ≡ true → (noCity (rowsFrom 51 xs) ≡ true → keptOf (rowsFrom 51 xs) ≡ drop 51 xs) → keptLine (take 52 (x ∷ xs)) ++ keptOf (rowsFrom 51 xs) ≡ x ∷ xs
-    on true e r f = absurd (true≢false (sym r))
-    on false e r f = ap₂ _++_ (line-kept (take 52 (x ∷ xs)) e) (f r) ∙ take-append-drop 52 (x ∷ xs)
+    on : (q : Bool) → (not q && noCity (rowsFrom 51 xs)) ≡ true → (noCity (rowsFrom 51 xs) ≡ true → keptOf (rowsFrom 51 xs) ≡ drop 51 xs) → pick q [] (take 52 (x ∷ xs)) ++ keptOf (rowsFrom 51 xs) ≡ x ∷ xs
+    on true r f = absurd (true≢false (sym r))
+    on false r f = ap (λ ys. take 52 (x ∷ xs) ++ ys) (f r) ∙ take-append-drop 52 (x ∷ xs)
 
 pub same-file : (file : List ℕ) → noCity (rows file) ≡ true → withoutCities file ≡ file
 unfolding withoutCities
 same-file file h = no-city 0 file h
 
--- ## Accepted again
+-- ## Lines that are all taken
 
-first-zero : (f g : Judged) → pick (eqb (f .number) 0) g f .number ≡ 0 → f .number ≡ 0
+abbrev nextBy : State → Kind → List ℕ → State
+nextBy s k xs = nextFor s k (fieldsOf k (take 50 xs))
+
+-- bytes whose rows are lines, each taken, from one state to the last
+data Read : State → List ℕ → List (List ℕ) → State → Type 0 where
+  no-more : {s : State} → Read s [] [] s
+  line : {s u : State} {x : ℕ} {xs : List ℕ} {lines : List (List ℕ)} (t : Taken s (x ∷ xs)) → Read (nextBy s (t .kind) (x ∷ xs)) (drop 51 xs) lines u → Read s (x ∷ xs) (take 52 (x ∷ xs) ∷ lines) u
+
+first-zero : (f : Judged) (lines : List (List ℕ)) → goingOn f lines .number ≡ 0 → f .number ≡ 0
 unfolding pick
-first-zero f g z = on (eqb (f .number) 0) refl z
+first-zero f lines z = on (eqb (f .number) 0) refl z
   where
-    on : (q : Bool) → eqb (f .number) 0 ≡ q → pick q g f .number ≡ 0 → f .number ≡ 0
+    on : (q : Bool) → eqb (f .number) 0 ≡ q → pick q (linesBy f lines) f .number ≡ 0 → f .number ≡ 0
     on true e z = eqb-true (f .number) 0 e
     on false e z = z
 
-first-rest : (f g : Judged) → f .number ≡ 0 → pick (eqb (f .number) 0) g f ≡ g
-unfolding pick
-first-rest f g z = rw (eq-eqb (f .number) 0 z)
+all-taken : (j : Judged) (k : ℕ) (xs : List ℕ) → linesBy j (rowsFrom k xs) .number ≡ 0 → Read (j .next) (drop k xs) (rowsFrom k xs) (linesBy j (rowsFrom k xs) .next)
+unfolding linesBy rowsFrom pick
+all-taken j zero [] z = no-more
+all-taken j (suc k) [] z = no-more
+all-taken j (suc k) (x ∷ xs) z = all-taken j k xs z
+all-taken j zero (x ∷ xs) z =
+    let s = j .next in
+    let lines = rowsFrom 51 xs in
+    let d = first-52 s (x ∷ xs) in
+    let t = takes s (x ∷ xs) (sym (ap (λ (i : Judged). i .number) d) ∙ first-zero (judgedFirst s (take 52 (x ∷ xs))) lines z) in
+    let e = d ∙ t .is in
+    subst (λ (i : Judged). Read s (x ∷ xs) (take 52 (x ∷ xs) ∷ lines) (goingOn i lines .next)) (sym e)
+    (line t (all-taken (taken (t .kind) (nextBy s (t .kind) (x ∷ xs))) 51 xs (subst (λ (i : Judged). goingOn i lines .number ≡ 0) e z)))
 
-long : (xs : List ℕ) → isWhole xs ≡ true → 52 ≤ length xs
-unfolding isWhole
-long xs w = leb-true 52 (length xs) (and-first _ _ w)
+kept-row : {s : State} {xs : List ℕ} (rest : List ℕ) → Taken s xs → rows (take 52 xs ++ rest) ≡ take 52 xs ∷ rows rest
+kept-row {s} {xs} rest t = rows-line (take 52 xs) rest (length-take-le 52 xs (whole-long xs (t .whole)))
 
-runs-on : (i : Judged) (ys : List ℕ) → 0 < length ys → judgedFirst (i .next) ys .number ≡ 0 → linesFrom i 0 ys ≡ linesFrom (judgedFirst (i .next) ys) 0 (drop 52 ys)
-unfolding linesFrom
-runs-on i [] h z = absurd (omega arith)
-runs-on i (y ∷ ys) h z = let f = judgedFirst (i .next) (y ∷ ys) in first-rest f (linesFrom f 51 ys) z ∙ running.skip f 51 ys
+-- ## Accepted again
 
--- a line before others is judged as where it stood
-module _ (w : State) (xs rest : List ℕ) (h : 52 ≤ length xs) where
-  front : judgedFirst w (take 52 xs ++ rest) ≡ judgedFirst w xs
-  front = sym (first-52 w (take 52 xs ++ rest)) ∙ ap (judgedFirst w) (take-at (take 52 xs) rest 52 (length-take-le 52 xs h)) ∙ first-52 w xs
-
-  kept-run : (i : Judged) → i .next ≡ w → judgedFirst w xs .number ≡ 0 → linesFrom i 0 (take 52 xs ++ rest) ≡ linesFrom (judgedFirst w xs) 0 rest
-  kept-run i e z =
-      let l = length-take-le 52 xs h in
-      let f : judgedFirst (i .next) (take 52 xs ++ rest) ≡ judgedFirst w xs = ap (λ u. judgedFirst u (take 52 xs ++ rest)) e ∙ front in
-      let n : 0 < length (take 52 xs ++ rest) = rw length-append (omega arith) in
-      runs-on i (take 52 xs ++ rest) n (ap (λ (g : Judged). g .number) f ∙ z) ∙ ap₂ (λ g r. linesFrom g 0 r) f (drop-at (take 52 xs) rest 52 l)
-
-record Follows (j i : Judged) : Type 0 where
+record Follows (s : State) (i : Judged) : Type 0 where
   pub number : i .number ≡ 0
-  pub next : Behind (j .next) (i .next)
+  pub next : Behind s (i .next)
 
-module _ (j i : Judged) (xs : List ℕ) (p : Follows j i) (z : judgedFirst (j .next) xs .number ≡ 0) (rest : List ℕ) (R : Judged) (f : (u : Judged) → Follows (judgedFirst (j .next) xs) u → Follows R (linesFrom u 0 rest)) where
-  t : Taken (j .next) xs
-  t = takes (j .next) xs z
-
-  line-on : (q : Bool) → isCity (take 52 xs) ≡ q → Follows R (linesFrom i 0 (keptLine (take 52 xs) ++ rest))
-  line-on true e =
-      let c = sym (city-kind xs t) ∙ e in
-      let b = behind-city (p .next) t c in
-      subst (λ l. Follows R (linesFrom i 0 (l ++ rest))) (sym (line-city (take 52 xs) e))
-      (f i (record { number = p .number; next = subst (λ (g : Judged). Behind (g .next) (i .next)) (sym (t .is)) b }))
+module _ {s : State} {xs : List ℕ} (t : Taken s xs) (i : Judged) (p : Follows s i) (rest : List ℕ) (u : State) (f : (v : Judged) → Follows (nextBy s (t .kind) xs) v → Follows u (linesBy v (rows rest))) where
+  line-on : (q : Bool) → isCity (take 52 xs) ≡ q → Follows u (linesBy i (rows (pick q [] (take 52 xs) ++ rest)))
+  unfolding linesBy pick
+  line-on true e = f i (record { number = p .number; next = behind-city (p .next) t (sym (city-kind xs t) ∙ e) })
   line-on false e =
       let c = sym (city-kind xs t) ∙ e in
-      let g = taken-too (p .next) t c in
-      let b = behind-too (p .next) t c in
-      let n : judgedFirst (i .next) xs .number ≡ 0 = ap (λ (y : Judged). y .number) g in
-      let u = judgedFirst (i .next) xs in
-      subst (λ l. Follows R (linesFrom i 0 (l ++ rest))) (sym (line-kept (take 52 xs) e))
-      (subst (Follows R) (sym (kept-run (i .next) xs rest (long xs (t .whole)) i refl n))
-      (f (judgedFirst (i .next) xs) (record { number = n; next = subst (λ (y : Judged). Behind (judgedFirst (j .next) xs .next) (y .next)) (sym g) (subst (λ (y : Judged). Behind (y .next) (nextFor (i .next) (t .kind) (fieldsOf (t .kind) (take 50 xs)))) (sym (t .is)) b) })))
+      subst (λ lines. Follows u (linesBy i lines)) (sym (kept-row rest t))
+      (subst (λ (v : Judged). Follows u (goingOn v (rows rest))) (sym (first-52 (i .next) xs ∙ taken-too (p .next) t c))
+      (f (taken (t .kind) (nextBy (i .next) (t .kind) xs)) (record { number = refl; next = behind-too (p .next) t c })))
 
-follows : (j i : Judged) (k : ℕ) (xs : List ℕ) → Follows j i → linesFrom j k xs .number ≡ 0 → Follows (linesFrom j k xs) (linesFrom i 0 (keptOf (rowsFrom k xs)))
-unfolding linesFrom keptOf rowsFrom
-follows j i k [] p z = p
-follows j i (suc k) (x ∷ xs) p z = follows j i k xs p z
-follows j i zero (x ∷ xs) p z =
-    let f = judgedFirst (j .next) (x ∷ xs) in
-    let n = first-zero f (linesFrom f 51 xs) z in
-    let r = first-rest f (linesFrom f 51 xs) n in
-    let y : linesFrom f 51 xs .number ≡ 0 = ap (λ (g : Judged). g .number) (sym r) ∙ z in
-    subst (λ g. Follows g (linesFrom i 0 (keptLine (take 52 (x ∷ xs)) ++ keptOf (rowsFrom 51 xs)))) (sym r)
-    (line-on j i (x ∷ xs) p n (keptOf (rowsFrom 51 xs)) (linesFrom f 51 xs) (λ u q. follows f u 51 xs q y) (isCity (take 52 (x ∷ xs))) refl)
+follows : {s u : State} {xs : List ℕ} {lines : List (List ℕ)} → Read s xs lines u → (i : Judged) → Follows s i → Follows u (linesBy i (rows (keptOf lines)))
+unfolding linesBy rowsFrom keptOf keptLine
+follows no-more i p = p
+follows {u = u} (line {x = x} {xs} {lines} t r) i p = line-on t i p (keptOf lines) u (λ v q. follows r v q) (isCity (take 52 (x ∷ xs))) refl
 
 -- ## The end
 
 start-behind : Behind startState startState
 start-behind = record { line = 0; name = Unwanted; is = refl; small = omega arith; like = alike refl }
-
-lines-start : (file : List ℕ) → linesOf startState file ≡ linesFrom (refused startState 0 0) 0 file
-unfolding linesOf within isKept pick
-lines-start file = refl
 
 record Ended (j : Judged) : Type 0 where
   pub number : j .number ≡ 0
@@ -171,7 +143,7 @@ ended-zero : (i : Judged) → Ended i → answerBy i .number ≡ 0
 unfolding endedAt pick
 ended-zero i e = rw (eq-eqb (i .number) 0 (e .number), e .limits, e .done)
 
-ended-behind : (j i : Judged) → Ended j → Follows j i → Ended i
+ended-behind : (j i : Judged) → Ended j → Follows (j .next) i → Ended i
 ended-behind j i e p =
     let b = p .next in
     record {
@@ -180,37 +152,38 @@ ended-behind j i e p =
       done = subst (λ u. isDone u ≡ true) (sym (b .is)) (e .done);
     }
 
+-- an accepted file's lines
+abbrev judged : List ℕ → Judged
+judged file = linesBy (refused startState 0 0) (rows file)
+
+ended-file : (file : List ℕ) → checkOf file .number ≡ 0 → Ended (judged file)
+unfolding checkOf linesOf within isKept pick
+ended-file file z = ends (judged file) z
+
+all-read : (file : List ℕ) → checkOf file .number ≡ 0 → Read startState file (rows file) (judged file .next)
+all-read file z = all-taken (refused startState 0 0) 0 file (ended-file file z .number)
+
 pub accepted-again : (file : List ℕ) → checkOf file .number ≡ 0 → checkOf (withoutCities file) .number ≡ 0
-unfolding checkOf withoutCities
+unfolding checkOf linesOf within isKept pick withoutCities
 accepted-again file z =
-    let a = lines-start file in
-    let e : Ended (linesFrom (refused startState 0 0) 0 file) = subst Ended a (ends (linesOf startState file) z) in
-    let p = follows (refused startState 0 0) (refused startState 0 0) 0 file (record { number = refl; next = start-behind }) (e .number) in
-    ended-zero (linesOf startState (keptOf (rows file))) (subst Ended (sym (lines-start (keptOf (rows file)))) (ended-behind (linesFrom (refused startState 0 0) 0 file) (linesFrom (refused startState 0 0) 0 (keptOf (rows file))) e p))
+    let p = follows (all-read file z) (refused startState 0 0) (record { number = refl; next = start-behind }) in
+    ended-zero (judged (keptOf (rows file))) (ended-behind (judged file) (judged (keptOf (rows file))) (ended-file file z) p)
 
 -- ## No city is left
 
-none-line : (xs rest : List ℕ) → 52 ≤ length xs → (q : Bool) → isCity (take 52 xs) ≡ q → noCity (rows rest) ≡ true → noCity (rows (keptLine (take 52 xs) ++ rest)) ≡ true
-unfolding noCity
-none-line xs rest h true e r = ap (λ l. noCity (rows (l ++ rest))) (line-city (take 52 xs) e) ∙ r
-none-line xs rest h false e r =
-    ap (λ l. noCity (rows (l ++ rest))) (line-kept (take 52 xs) e) ∙ ap noCity (rows-line (take 52 xs) rest (length-take-le 52 xs h)) ∙ ap₂ (λ p q. not p && q) e r
+none-line : {s : State} {xs : List ℕ} (rest : List ℕ) → Taken s xs → (q : Bool) → isCity (take 52 xs) ≡ q → noCity (rows rest) ≡ true → noCity (rows (pick q [] (take 52 xs) ++ rest)) ≡ true
+unfolding noCity pick
+none-line rest t true e r = r
+none-line rest t false e r = ap noCity (kept-row rest t) ∙ ap₂ (λ p q. not p && q) e r
 
-none-left : (j : Judged) (k : ℕ) (xs : List ℕ) → linesFrom j k xs .number ≡ 0 → noCity (rows (keptOf (rowsFrom k xs))) ≡ true
-unfolding linesFrom keptOf rowsFrom noCity
-none-left j k [] z = refl
-none-left j (suc k) (x ∷ xs) z = none-left j k xs z
-none-left j zero (x ∷ xs) z =
-    let f = judgedFirst (j .next) (x ∷ xs) in
-    let n = first-zero f (linesFrom f 51 xs) z in
-    let y : linesFrom f 51 xs .number ≡ 0 = ap (λ (g : Judged). g .number) (sym (first-rest f (linesFrom f 51 xs) n)) ∙ z in
-    none-line (x ∷ xs) (keptOf (rowsFrom 51 xs)) (long (x ∷ xs) (takes (j .next) (x ∷ xs) n .whole)) (isCity (take 52 (x ∷ xs))) refl (none-left f 51 xs y)
+none-left : {s u : State} {xs : List ℕ} {lines : List (List ℕ)} → Read s xs lines u → noCity (rows (keptOf lines)) ≡ true
+unfolding keptOf keptLine rowsFrom noCity
+none-left no-more = refl
+none-left (line {x = x} {xs} {lines} t r) = none-line (keptOf lines) t (isCity (take 52 (x ∷ xs))) refl (none-left r)
 
 pub without-cities : (file : List ℕ) → checkOf file .number ≡ 0 → noCity (rows (withoutCities file)) ≡ true
-unfolding checkOf withoutCities
-without-cities file z =
-    let e : Ended (linesFrom (refused startState 0 0) 0 file) = subst Ended (lines-start file) (ends (linesOf startState file) z) in
-    none-left (refused startState 0 0) 0 file (e .number)
+unfolding withoutCities
+without-cities file z = none-left (all-read file z)
 
 -- ## What the writer writes
 
@@ -257,9 +230,9 @@ no-entry BatchTrailer x c = absurd (true≢false (sym c))
 no-entry FileTrailer x c = absurd (true≢false (sym c))
 
 abbrev readAs : State → (k : Kind) → List ℕ → LineRead
-readAs s k xs = readBy (take 50 xs) (Of k) (taken k (nextFor s k (fieldsOf k (take 50 xs))))
+readAs s k xs = readBy (take 50 xs) (Of k) (taken k (nextBy s k xs))
 
-step-as : (s : State) (x : ℕ) (xs : List ℕ) (k : Kind) → judgedFirst s (x ∷ xs) ≡ taken k (nextFor s k (fieldsOf k (take 50 (x ∷ xs)))) → stepAt s (x ∷ xs) ≡ readAs s k (x ∷ xs)
+step-as : (s : State) (x : ℕ) (xs : List ℕ) (k : Kind) → judgedFirst s (x ∷ xs) ≡ taken k (nextBy s k (x ∷ xs)) → stepAt s (x ∷ xs) ≡ readAs s k (x ∷ xs)
 unfolding stepAt
 step-as s x xs k e = ap (λ (j : Judged). readBy (take 50 (x ∷ xs)) (j .code) j) e
 
@@ -267,18 +240,12 @@ wrote : (w : State) (e : Entry) (t : List ℕ) (r : LineRead) → stepAt w (line
 unfolding writtenOf pick
 wrote w e t r h z = rw (h, eq-eqb (r .answer) 0 z)
 
-module _ (s w : State) (x : ℕ) (xs rest : List ℕ) (b : Behind s w) (z : judgedFirst s (x ∷ xs) .number ≡ 0) (f : (u : State) → Behind (judgedFirst s (x ∷ xs) .next) u → Rewrites (judgedFirst s (x ∷ xs) .next) u (drop 51 xs) rest) where
-  tk : Taken s (x ∷ xs)
-  tk = takes s (x ∷ xs) z
-
+module _ {s : State} {x : ℕ} {xs : List ℕ} (tk : Taken s (x ∷ xs)) (w : State) (b : Behind s w) (rest : List ℕ) (f : (u : State) → Behind (nextBy s (tk .kind) (x ∷ xs)) u → Rewrites (nextBy s (tk .kind) (x ∷ xs)) u (drop 51 xs) rest) where
   read-s : stepAt s (x ∷ xs) ≡ readAs s (tk .kind) (x ∷ xs)
   read-s = step-as s x xs (tk .kind) (tk .is)
 
-  next-s : judgedFirst s (x ∷ xs) .next ≡ stepAt s (x ∷ xs) .next
-  next-s = ap (λ (j : Judged). j .next) (tk .is) ∙ sym (ap (λ (r : LineRead). r .next) read-s)
-
-  after : (u : State) → Behind (nextFor s (tk .kind) (fieldsOf (tk .kind) (take 50 (x ∷ xs)))) u → Rewrites (stepAt s (x ∷ xs) .next) u (drop 51 xs) rest
-  after u c = subst (λ v. Rewrites v u (drop 51 xs) rest) next-s (f u (subst (λ (j : Judged). Behind (j .next) u) (sym (tk .is)) c))
+  after : (u : State) → Behind (nextBy s (tk .kind) (x ∷ xs)) u → Rewrites (stepAt s (x ∷ xs) .next) u (drop 51 xs) rest
+  after u c = subst (λ (r : LineRead). Rewrites (r .next) u (drop 51 xs) rest) (sym read-s) (f u c)
 
   module _ (c : isCityKind (tk .kind) ≡ false) where
     read-w : stepAt w (x ∷ xs) ≡ readAs w (tk .kind) (x ∷ xs)
@@ -299,31 +266,23 @@ module _ (s w : State) (x : ℕ) (xs rest : List ℕ) (b : Behind s w) (z : judg
     kept-written =
         subst (λ l. Rewrites s w (x ∷ xs) (l ++ rest)) (sym line-is)
         (written (entry .0) (ap (λ (r : LineRead). r .answer) read-s) (ap (λ (r : LineRead). entryOf (r .read)) read-s ∙ entry .1) (ap (λ (v : Written). v .answer) writer-is)
-        (subst (λ (v : Written). Rewrites (stepAt s (x ∷ xs) .next) (v .next) (drop 51 xs) rest) (sym writer-is) (after (nextFor w (tk .kind) (fieldsOf (tk .kind) (take 50 (x ∷ xs)))) (behind-too b tk c))))
+        (subst (λ (v : Written). Rewrites (stepAt s (x ∷ xs) .next) (v .next) (drop 51 xs) rest) (sym writer-is) (after (nextBy w (tk .kind) (x ∷ xs)) (behind-too b tk c))))
 
-  line-written : (q : Bool) → isCity (take 52 (x ∷ xs)) ≡ q → Rewrites s w (x ∷ xs) (keptLine (take 52 (x ∷ xs)) ++ rest)
+  line-written : (q : Bool) → isCity (take 52 (x ∷ xs)) ≡ q → Rewrites s w (x ∷ xs) (pick q [] (take 52 (x ∷ xs)) ++ rest)
+  unfolding pick
   line-written true e =
       let c = sym (city-kind (x ∷ xs) tk) ∙ e in
-      subst (λ l. Rewrites s w (x ∷ xs) (l ++ rest)) (sym (line-city (take 52 (x ∷ xs)) e))
-      (city (ap (λ (r : LineRead). r .answer) read-s) (ap (λ (r : LineRead). entryOf (r .read)) read-s ∙ no-entry (tk .kind) (fieldsOf (tk .kind) (take 50 (x ∷ xs))) c) (after w (behind-city b tk c)))
-  line-written false e = subst (λ l. Rewrites s w (x ∷ xs) (l ++ rest)) (sym (line-kept (take 52 (x ∷ xs)) e)) (kept-written (sym (city-kind (x ∷ xs) tk) ∙ e))
+      city (ap (λ (r : LineRead). r .answer) read-s) (ap (λ (r : LineRead). entryOf (r .read)) read-s ∙ no-entry (tk .kind) (fieldsOf (tk .kind) (take 50 (x ∷ xs))) c) (after w (behind-city b tk c))
+  line-written false e = kept-written (sym (city-kind (x ∷ xs) tk) ∙ e)
 
-rewrites : (j : Judged) (w : State) (k : ℕ) (xs : List ℕ) → linesFrom j k xs .number ≡ 0 → Behind (j .next) w → Rewrites (j .next) w (drop k xs) (keptOf (rowsFrom k xs))
-unfolding linesFrom keptOf rowsFrom
-rewrites j w zero [] z b = ended (j .next) w
-rewrites j w (suc k) [] z b = ended (j .next) w
-rewrites j w (suc k) (x ∷ xs) z b = rewrites j w k xs z b
-rewrites j w zero (x ∷ xs) z b =
-    let f = judgedFirst (j .next) (x ∷ xs) in
-    let n = first-zero f (linesFrom f 51 xs) z in
-    let y : linesFrom f 51 xs .number ≡ 0 = ap (λ (g : Judged). g .number) (sym (first-rest f (linesFrom f 51 xs) n)) ∙ z in
-    line-written (j .next) w x xs (keptOf (rowsFrom 51 xs)) b n (λ u c. rewrites f u 51 xs y c) (isCity (take 52 (x ∷ xs))) refl
+rewrites : {s u : State} {xs : List ℕ} {lines : List (List ℕ)} → Read s xs lines u → (w : State) → Behind s w → Rewrites s w xs (keptOf lines)
+unfolding keptOf keptLine
+rewrites {s} no-more w b = ended s w
+rewrites (line {x = x} {xs} {lines} t r) w b = line-written t w b (keptOf lines) (λ v c. rewrites r v c) (isCity (take 52 (x ∷ xs))) refl
 
 pub by-writer : (file : List ℕ) → checkOf file .number ≡ 0 → Rewrites startState startState file (withoutCities file)
-unfolding checkOf withoutCities
-by-writer file z =
-    let e : Ended (linesFrom (refused startState 0 0) 0 file) = subst Ended (lines-start file) (ends (linesOf startState file) z) in
-    rewrites (refused startState 0 0) startState 0 file (e .number) start-behind
+unfolding withoutCities
+by-writer file z = rewrites (all-read file z) startState start-behind
 
 -- ## Of the function's own result
 

@@ -2,15 +2,13 @@
 use Prim.Native.Nat.{ℕ, zero, suc, _+_, _*_, _≤_}
 use mathlib.Core.Path.{_≡_, refl, sym, ap, _∙_, subst}
 use mathlib.Core.List.{List, [], _∷_}
-use mathlib.Core.Bool.{Bool, true, false, _&&_}
+use mathlib.Core.Bool.{Bool, true, false}
 use mathlib.Core.Option.{none, some}
 use native.Mathlib.Omega.{arith}
-use lib.ListN.{length, getD, take, drop, replicate, length-replicate, length-append, length-drop}
-use lib.Dec.{eqb, leb, leb→le}
+use lib.ListN.{length, take, drop, replicate, length-replicate, length-append, length-drop}
 use Rattle.machine.specs.Lists.{pick, same}
 use Rattle.machine.specs.Digits.{valueAfter}
 use Rattle.machine.specs.Lines.{Exactly, no-lines, one-more}
-use Rattle.machine.proofs.Base.{and-l, of-eq}
 use Rattle.format.specs.Rules.{isTestCode, daysIn, isDate, isDesiredDate, isIdentification, isOfDay, weighted, isEleven, isOrderingAccount, isAccount, isOwnPayer, isOwnBeneficiary, isNameCodeIn, typeOf, typeText}
 use Rattle.format.specs.Language.{Item, Batch, File, totalOf, accountsOf, tenDigits, Rec, itemsRecs, batchTrailerRec, batchesRecs, fileTrailerRecs, fileRecs, ItemOk, ItemsOk, Follows, BatchOk, BatchesOk, Valid, crlf, endBytes, lineOf, linesOf, Reads}
 use Rattle.format.specs.Cutting.{Fixed, unfixed, cut, turn}
@@ -23,6 +21,7 @@ use Rattle.format.proofs.Complete.{complete}
 use Rattle.reading.specs.State.{maxLine}
 use Rattle.reading.specs.Step.{isWhole}
 use Rattle.reading.specs.Check.{checkOf}
+use Rattle.reading.proofs.Running.{whole-long}
 use Rattle.theorem.specs.Meaning.{answer}
 use Rattle.theorem.specs.Longest.{Longest}
 use Rattle.theorem.proofs.Run.{cutIf, cut-whole}
@@ -31,14 +30,13 @@ use Rattle.theorem.proofs.Meaning.{language, lines-read, none-longer}
 -- ## 52 bytes a line
 
 cut-bytes : (b c r : List ℕ) → cut unfixed b ≡ some (c, r) → length b ≡ 52 + length r
-unfolding isWhole
 cut-bytes b c r h = by (isWhole b) refl (sym (cut-whole b) ∙ h)
   where
     by : (q : Bool) → isWhole b ≡ q → cutIf q b ≡ some (c, r) → length b ≡ 52 + length r
     by true w e =
         let p : _≡_ {A = List ℕ × List ℕ} (take 52 b, drop 52 b) (c, r) = cc in
         let d : drop 52 b ≡ r = ap (λ (u : List ℕ × List ℕ). u .1) p in
-        let l = leb→le 52 (length b) (and-l (leb 52 (length b)) (eqb (getD b 50 0) 13 && eqb (getD b 51 0) 10) (of-eq (isWhole b) w)) in
+        let l = whole-long b w in
         omega (arith, simp length-drop at (ap length d))
     by false w e = absurd (let z : _≡_ {A = ℕ} 0 1 = cc in omega arith)
 

@@ -16,7 +16,7 @@ use Rattle.machine.proofs.Base as base
 use Rattle.machine.proofs.Lines.{follow, on-line, run}
 use Rattle.machine.proofs.Lines as lines
 use Rattle.format.specs.Language.{In}
-use Rattle.format.specs.Cutting.{unfixed, cut, turn}
+use Rattle.format.specs.Cutting.{unfixed, cut, turn, rowsFrom, rows}
 use Rattle.format.specs.declared.Group.{Group}
 use Rattle.format.specs.declared.Group.the-variants.{Payments, Debits}
 use Rattle.format.proofs.Reader.{Room, ended, isEnd, step}
@@ -32,8 +32,8 @@ use Rattle.reading.specs.declared.Answer.{Answer}
 use Rattle.reading.specs.State.{startState, isKept, within}
 use Rattle.reading.specs.Order.{isStage}
 use Rattle.reading.specs.Step.{refused, taken, judgedLine, isWhole, isDone, judgedFirst, endedAt}
-use Rattle.reading.specs.Check.{linesFrom, linesOf, answerBy, checkOf}
-use Rattle.reading.proofs.Running.{skip}
+use Rattle.reading.specs.Check.{linesBy, linesOf, answerBy, checkOf}
+use Rattle.reading.proofs.Running.{goingOn, lines-on}
 use Rattle.theorem.specs.Meaning.{answer}
 use Rattle.theorem.proofs.Places.{phaseIn, phaseOf, contextOf, placeOf, roomOf}
 use Rattle.theorem.proofs.Faults.{drop-take}
@@ -107,13 +107,6 @@ theRun k s n b = run the.State step isEnd cut turn k s unfixed n b
 abbrev onCut : ℕ → State → Cut → base.Answer
 onCut k s o = on-line the.State step isEnd cut turn o (placeOf s) unfixed (s .line) (λ u e r. theRun k u (suc (s .line)) r)
 
--- a refusal names the next line
-stopped : (s : State) (number column : ℕ) → In 1 11 number → Says (answerBy (refused s column number)) (base.refused number (suc (s .line)) column)
-unfolding pick
-stopped s number column h =
-    let e : s .line + 1 ≡ suc (s .line) = omega arith in
-    rw (ne-eqb number 0 (omega arith), ne-eqb number 24 (omega arith), e) (no number (suc (s .line)) column h)
-
 -- no bytes remain
 at-none : (j : Judged) → j .number ≡ 0 → Reach (j .next) → (q : Bool) → isDone (j .next) ≡ q → Says (answerBy j) (cond q (base.accepted (j .next .line)) (base.refused 10 (suc (j .next .line)) 0))
 unfolding endedAt pick
@@ -122,62 +115,65 @@ at-none j z i false q =
     let e : j .next .line + 1 ≡ suc (j .next .line) = omega arith in
     rw (eq-eqb (j .number) 0 z, reach-within (j .next) i, q, e) (no 10 (suc (j .next .line)) 0 (omega arith))
 
-module _ (k : ℕ) (ih : (j : Judged) (b : List ℕ) → length b < k → j .number ≡ 0 → Reach (j .next) → Says (answerBy (linesFrom j 0 b)) (theRun k (placeOf (j .next)) (j .next .line) b)) (s : State) (i : Reach s) (x : ℕ) (xs : List ℕ) (l : length (x ∷ xs) < suc k) where
+module _ (k : ℕ) (ih : (j : Judged) (b : List ℕ) → length b < k → j .number ≡ 0 → Reach (j .next) → Says (answerBy (linesBy j (rows b))) (theRun k (placeOf (j .next)) (j .next .line) b)) (s : State) (i : Reach s) (b : List ℕ) (p : 0 < length b) (l : length b < suc k) where
   -- the answer after a first line
   abbrev answered : Judged → Answer
-  answered j = answerBy (pick (eqb (j .number) 0) (linesFrom j 51 xs) j)
+  answered j = answerBy (goingOn j (rows (drop 52 b)))
 
   abbrev rest : the.State → base.Answer
-  rest u = theRun k u (suc (s .line)) (drop 51 xs)
+  rest u = theRun k u (suc (s .line)) (drop 52 b)
 
+  -- a refusal names the next line
   refusing : (number column : ℕ) → In 1 11 number → Says (answered (refused s column number)) (base.refused number (suc (s .line)) column)
   unfolding pick
-  refusing number column h = subst (λ q. Says (answerBy (pick q (linesFrom (refused s column number) 51 xs) (refused s column number))) (base.refused number (suc (s .line)) column)) (sym (ne-eqb number 0 (omega arith))) (stopped s number column h)
+  refusing number column h =
+      let e : s .line + 1 ≡ suc (s .line) = omega arith in
+      let z = ne-eqb number 0 (omega arith) in
+      rw (z, z, ne-eqb number 24 (omega arith), e) (no number (suc (s .line)) column h)
 
-  at-line : {j : Judged} → Agrees s (take 50 (x ∷ xs)) j → Reach (j .next) → Says (answered j) (follow the.State step isEnd cut turn (step (placeOf s) (take 52 (x ∷ xs))) (s .line) rest)
+  at-line : {j : Judged} → Agrees s (take 50 b) j → Reach (j .next) → Says (answered j) (follow the.State step isEnd cut turn (step (placeOf s) (take 52 b)) (s .line) rest)
   unfolding pick
   at-line (goes m u e d) r =
       let n : u .line ≡ suc (s .line) = d ∙ omega arith in
-      subst (λ o. Says (answerBy (linesFrom (taken m u) 51 xs)) (follow the.State step isEnd cut turn o (s .line) rest)) (sym (step-50 s (x ∷ xs) ∙ e))
-      (subst (λ (j : Judged). Says (answerBy j) (rest (placeOf u))) (sym (skip (taken m u) 51 xs))
-      (subst (λ n. Says (answerBy (linesFrom (taken m u) 0 (drop 51 xs))) (theRun k (placeOf u) n (drop 51 xs))) n
-      (ih (taken m u) (drop 51 xs) (simp length-drop (omega arith)) refl r)))
+      subst (λ o. Says (answered (taken m u)) (follow the.State step isEnd cut turn o (s .line) rest)) (sym (step-50 s b ∙ e))
+      (subst (λ n. Says (answered (taken m u)) (theRun k (placeOf u) n (drop 52 b))) n
+      (ih (taken m u) (drop 52 b) (simp length-drop (omega arith)) refl r))
   at-line (stops column number h e) r =
-      subst (λ o. Says (answered (refused s column number)) (follow the.State step isEnd cut turn o (s .line) rest)) (sym (step-50 s (x ∷ xs) ∙ e)) (refusing number column (omega arith))
+      subst (λ o. Says (answered (refused s column number)) (follow the.State step isEnd cut turn o (s .line) rest)) (sym (step-50 s b ∙ e)) (refusing number column (omega arith))
 
-  at-whole : (q : Bool) → Reach (pick q (judgedLine s (take 50 (x ∷ xs))) (refused s 0 1) .next)
-      → Says (answered (pick q (judgedLine s (take 50 (x ∷ xs))) (refused s 0 1))) (onCut k s (cutIf q (x ∷ xs)))
+  at-whole : (q : Bool) → Reach (pick q (judgedLine s (take 50 b)) (refused s 0 1) .next) → Says (answered (pick q (judgedLine s (take 50 b)) (refused s 0 1))) (onCut k s (cutIf q b))
   unfolding pick
-  at-whole true r = at-line (line-agrees s (take 50 (x ∷ xs))) r
+  at-whole true r = at-line (line-agrees s (take 50 b)) r
   at-whole false r = refusing 1 0 (omega arith)
 
   first-line : Judged
-  first-line = pick (isWhole (x ∷ xs)) (judgedLine s (take 50 (x ∷ xs))) (refused s 0 1)
+  first-line = pick (isWhole b) (judgedLine s (take 50 b)) (refused s 0 1)
 
-  judged : (q : Bool) → isDone s ≡ q → judgedFirst s (x ∷ xs) ≡ pick q (refused s 0 11) first-line
+  judged : (q : Bool) → isDone s ≡ q → judgedFirst s b ≡ pick q (refused s 0 11) first-line
   unfolding judgedFirst first-line pick
   judged q e = rw (reach-within s i, e)
 
-  at-block : (q : Bool) → isDone s ≡ q
-      → Says (answered (judgedFirst s (x ∷ xs))) (cond q (base.refused 11 (suc (s .line)) 0) (onCut k s (cut unfixed (x ∷ xs))))
+  at-block : (q : Bool) → isDone s ≡ q → Says (answered (judgedFirst s b)) (cond q (base.refused 11 (suc (s .line)) 0) (onCut k s (cut unfixed b)))
   unfolding first-line pick
   at-block true e = subst (λ j. Says (answered j) (base.refused 11 (suc (s .line)) 0)) (sym (judged true e)) (refusing 11 0 (omega arith))
   at-block false e =
       let a = judged false e in
-      subst (λ o. Says (answered (judgedFirst s (x ∷ xs))) (onCut k s o)) (sym (cut-whole (x ∷ xs)))
-      (subst (λ j. Says (answered j) (onCut k s (cutIf (isWhole (x ∷ xs)) (x ∷ xs)))) (sym a)
-      (at-whole (isWhole (x ∷ xs)) (subst (λ (j : Judged). Reach (j .next)) a (reach-next s (x ∷ xs) i))))
+      subst (λ o. Says (answered (judgedFirst s b)) (onCut k s o)) (sym (cut-whole b))
+      (subst (λ j. Says (answered j) (onCut k s (cutIf (isWhole b) b))) (sym a)
+      (at-whole (isWhole b) (subst (λ (j : Judged). Reach (j .next)) a (reach-next s b i))))
 
-simulates : (k : ℕ) (j : Judged) (b : List ℕ) → length b < k → j .number ≡ 0 → Reach (j .next) → Says (answerBy (linesFrom j 0 b)) (theRun k (placeOf (j .next)) (j .next .line) b)
-unfolding run linesFrom
+simulates : (k : ℕ) (j : Judged) (b : List ℕ) → length b < k → j .number ≡ 0 → Reach (j .next) → Says (answerBy (linesBy j (rows b))) (theRun k (placeOf (j .next)) (j .next .line) b)
+unfolding run linesBy rowsFrom
 simulates zero j b l z i = absurd (omega arith)
 simulates (suc k) j [] l z i =
     let s = j .next in
     subst (λ q. Says (answerBy j) (cond q (base.accepted (s .line)) (base.refused 10 (suc (s .line)) 0))) (sym (done-at s)) (at-none j z i (isDone s) refl)
 simulates (suc k) j (x ∷ xs) l z i =
     let s = j .next in
-    subst (λ q. Says (answered k (simulates k) s i x xs l (judgedFirst s (x ∷ xs))) (cond q (base.refused 11 (suc (s .line)) 0) (onCut k s (cut unfixed (x ∷ xs))))) (sym (done-at s))
-    (at-block k (simulates k) s i x xs l (isDone s) refl)
+    let b = x ∷ xs in
+    subst (λ (j : Judged). Says (answerBy j) (theRun (suc k) (placeOf s) (s .line) b)) (sym (lines-on j b (omega arith)))
+    (subst (λ q. Says (answered k (simulates k) s i b (omega arith) l (judgedFirst s b)) (cond q (base.refused 11 (suc (s .line)) 0) (onCut k s (cut unfixed b)))) (sym (done-at s))
+    (at-block k (simulates k) s i b (omega arith) l (isDone s) refl))
 
 -- THE SAME ANSWER for every list of bytes
 pub same-answer : (b : List ℕ) → Says (checkOf b) (readFile b)
