@@ -196,38 +196,27 @@ unfolding is-some
 the-entry none h = absurd (true≢false (sym h))
 the-entry (some e) h = (e, refl)
 
-some-entry : (k : Kind) (x : Fields k) → isCityKind k ≡ false → is-some (entryOf (recordFor k x)) ≡ true
+no-entry : (o : Option Entry) → is-some o ≡ false → o ≡ none
 unfolding is-some
-some-entry FileHeader x c = refl
-some-entry BatchHeaderB x c = refl
-some-entry BatchHeaderC x c = refl
-some-entry FixedDescription x c = refl
-some-entry OrderingParty x c = refl
-some-entry Transaction x c = refl
-some-entry NamePayer x c = refl
-some-entry CityPayer x c = absurd (true≢false c)
-some-entry PaymentReference x c = refl
-some-entry Description x c = refl
-some-entry NameBeneficiary x c = refl
-some-entry CityBeneficiary x c = absurd (true≢false c)
-some-entry BatchTrailer x c = refl
-some-entry FileTrailer x c = refl
+no-entry none h = refl
+no-entry (some e) h = absurd (true≢false h)
 
-no-entry : (k : Kind) (x : Fields k) → isCityKind k ≡ true → entryOf (recordFor k x) ≡ none
-no-entry FileHeader x c = absurd (true≢false (sym c))
-no-entry BatchHeaderB x c = absurd (true≢false (sym c))
-no-entry BatchHeaderC x c = absurd (true≢false (sym c))
-no-entry FixedDescription x c = absurd (true≢false (sym c))
-no-entry OrderingParty x c = absurd (true≢false (sym c))
-no-entry Transaction x c = absurd (true≢false (sym c))
-no-entry NamePayer x c = absurd (true≢false (sym c))
-no-entry CityPayer x c = refl
-no-entry PaymentReference x c = absurd (true≢false (sym c))
-no-entry Description x c = absurd (true≢false (sym c))
-no-entry NameBeneficiary x c = absurd (true≢false (sym c))
-no-entry CityBeneficiary x c = refl
-no-entry BatchTrailer x c = absurd (true≢false (sym c))
-no-entry FileTrailer x c = absurd (true≢false (sym c))
+has-entry : (k : Kind) (x : Fields k) → is-some (entryOf (recordFor k x)) ≡ not (isCityKind k)
+unfolding is-some
+has-entry FileHeader x = refl
+has-entry BatchHeaderB x = refl
+has-entry BatchHeaderC x = refl
+has-entry FixedDescription x = refl
+has-entry OrderingParty x = refl
+has-entry Transaction x = refl
+has-entry NamePayer x = refl
+has-entry CityPayer x = refl
+has-entry PaymentReference x = refl
+has-entry Description x = refl
+has-entry NameBeneficiary x = refl
+has-entry CityBeneficiary x = refl
+has-entry BatchTrailer x = refl
+has-entry FileTrailer x = refl
 
 abbrev readAs : State → (k : Kind) → List ℕ → LineRead
 readAs s k xs = readBy (take 50 xs) (Of k) (taken k (nextBy s k xs))
@@ -252,7 +241,7 @@ module _ {s : State} {x : ℕ} {xs : List ℕ} (tk : Taken s (x ∷ xs)) (w : St
     read-w = step-as w x xs (tk .kind) (taken-too b tk c)
 
     entry : (e : Entry) × (entryOf (recordFor (tk .kind) (fieldsOf (tk .kind) (take 50 (x ∷ xs)))) ≡ some e)
-    entry = the-entry (entryOf (recordFor (tk .kind) (fieldsOf (tk .kind) (take 50 (x ∷ xs))))) (some-entry (tk .kind) (fieldsOf (tk .kind) (take 50 (x ∷ xs))) c)
+    entry = the-entry (entryOf (recordFor (tk .kind) (fieldsOf (tk .kind) (take 50 (x ∷ xs))))) (has-entry (tk .kind) (fieldsOf (tk .kind) (take 50 (x ∷ xs))) ∙ ap not c)
 
     line-is : take 52 (x ∷ xs) ≡ lineFor w (entry .0) (stepAt s (x ∷ xs) .text)
     line-is =
@@ -272,7 +261,8 @@ module _ {s : State} {x : ℕ} {xs : List ℕ} (tk : Taken s (x ∷ xs)) (w : St
   unfolding pick
   line-written true e =
       let c = sym (city-kind (x ∷ xs) tk) ∙ e in
-      city (ap (λ (r : LineRead). r .answer) read-s) (ap (λ (r : LineRead). entryOf (r .read)) read-s ∙ no-entry (tk .kind) (fieldsOf (tk .kind) (take 50 (x ∷ xs))) c) (after w (behind-city b tk c))
+      let o = no-entry (entryOf (recordFor (tk .kind) (fieldsOf (tk .kind) (take 50 (x ∷ xs))))) (has-entry (tk .kind) (fieldsOf (tk .kind) (take 50 (x ∷ xs))) ∙ ap not c) in
+      city (ap (λ (r : LineRead). r .answer) read-s) (ap (λ (r : LineRead). entryOf (r .read)) read-s ∙ o) (after w (behind-city b tk c))
   line-written false e = kept-written (sym (city-kind (x ∷ xs) tk) ∙ e)
 
 rewrites : {s u : State} {xs : List ℕ} {lines : List (List ℕ)} → Read s xs lines u → (w : State) → Behind s w → Rewrites s w xs (keptOf lines)
