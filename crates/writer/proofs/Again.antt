@@ -32,11 +32,11 @@ use Rattle.reading.specs.Step.{stepAt}
 use Rattle.reading.specs.declared.State.{State}
 use Rattle.reading.specs.declared.LineRead.{LineRead}
 use Rattle.writer.specs.Encoding.{unfit, numberIn, textIn, blankIn, Givens, encodeField, encodeFields, lineEnd, encodedLine, testText}
-use Rattle.writer.specs.Entries.{kindOf, givenFor, lineFor}
+use Rattle.writer.specs.Entries.{digitsFor, kindOf, givenFor, lineFor}
 use Rattle.writer.specs.Promises.{entryOf}
 use Rattle.writer.specs.declared.Entry.{Entry}
 use Rattle.writer.specs.declared.Entry.the-variants.{FileHeader, BatchHeader, FixedDescription, OrderingParty, Item, NamePayer, PaymentReference, Description, NameBeneficiary, BatchTrailer, FileTrailer}
-use Rattle.writer.proofs.Building.{exact}
+use Rattle.writer.proofs.Building.{exact, digits-in}
 use Rattle.writer.proofs.Accepting.{accepts, accepted-line}
 use Rattle.writer.proofs.Back.{padded-is}
 
@@ -81,14 +81,13 @@ blank-nothing w = refl
 
 -- ## Texts by what they stand for
 
-identification-again : (t : List ℕ) → length t ≡ 4 → T (isIdentification t) → textIn 4 (numberIn 4 (digitsOf t .value)) ≡ t
+identification-again : (t : List ℕ) → length t ≡ 4 → T (isIdentification t) → textIn 4 (digitsFor 4 (digitsOf t .value)) ≡ t
 unfolding isIdentification
 identification-again t h k =
     let d = and-l (all isDigit t) (not (same (drop 2 t) (48 ∷ 48 ∷ []))) k in
     let r = read-field (numeric 4) t h d in
     let v : digitsOf t .value ≡ valueOf t = sym (ap (λ (y : Digits). y .value) (digits-are t (omega arith) (yes (all isDigit t) d) refl)) in
-    let n : numberIn 4 (digitsOf t .value) ≡ t = ap (numberIn 4) v ∙ number-in 4 (valueOf t) (r .0) ∙ sym (r .1) in
-    ap (textIn 4) n ∙ exact 4 t h
+    digits-in 4 (digitsOf t .value) (omega arith) ∙ ap (numberIn 4) v ∙ number-in 4 (valueOf t) (r .0) ∙ sym (r .1)
 
 group-again : (t : List ℕ) → length t ≡ 2 → T (isGroup t) → textIn 2 (groupText (groupOf t)) ≡ t
 unfolding pick

@@ -2,15 +2,15 @@
 use Prim.Native.Nat.{ℕ, zero, suc, _+_, _-_, _≤_, _<_}
 use mathlib.Core.Path.{_≡_, refl, sym, ap, ap₂, _∙_, subst}
 use mathlib.Core.List.{List, [], _∷_, _++_, append-assoc}
-use mathlib.Core.Bool.{Bool, true, false, _&&_, _||_}
+use mathlib.Core.Bool.{Bool, true, false, not, _&&_, _||_}
 use native.Mathlib.Omega.{arith}
-use borrow.Author.Tests.{ltb-true, le-leb}
+use borrow.Author.Tests.{not-false, ltb-true, lt-leb}
 use lib.ListN.{length, take, drop, take-append-drop, length-append, length-drop, length-replicate}
-use lib.Seq.{paste, take-at, drop-at, take-all, length-take-le}
-use lib.Dec.{T, ltb}
+use lib.Seq.{take-at, drop-at, take-all, length-take-le}
+use lib.Dec.{T, leb, ltb}
 use Rattle.machine.specs.Lists.{pick, all, same, isDigit, isSpace, spaces}
 use Rattle.machine.specs.Digits.{pow10, decimal, valueOf}
-use Rattle.machine.proofs.Base.{of-eq, yes, append-inj}
+use Rattle.machine.proofs.Base.{and-l, and-second, true≢false, of-eq, yes, append-inj}
 use Rattle.machine.proofs.Digits.{length-decimal, decimal-digits, value-decimal, blank}
 use Rattle.field.proofs.Putting.{put-front}
 use Rattle.format.specs.Fields.{Field, numeric, filled, optional, free, filler, width, Value, Values, widths, printable, leftJustified, wellFormed, readField, writeField, writeFields, Fits}
@@ -32,11 +32,11 @@ use Rattle.reading.specs.Step.{nextFor, stepAt}
 use Rattle.reading.specs.declared.State.{State}
 use Rattle.reading.specs.declared.LineRead.{LineRead}
 use Rattle.writer.specs.Encoding.{unfit, numberIn, textIn, blankIn, Given, Givens, encodeField, encodeFields, lineEnd, encodedLine, testText}
-use Rattle.writer.specs.Entries.{kindOf, givenFor, lineFor}
-use Rattle.writer.specs.Promises.{recordOf}
+use Rattle.writer.specs.Entries.{digitsFor, kindOf, givenFor, lineFor}
+use Rattle.writer.specs.Promises.{recordOf, isTextFit, isUnfit}
 use Rattle.writer.specs.declared.Entry.{Entry}
 use Rattle.writer.specs.declared.Entry.the-variants.{FileHeader, BatchHeader, FixedDescription, OrderingParty, Item, NamePayer, PaymentReference, Description, NameBeneficiary, BatchTrailer, FileTrailer}
-use Rattle.writer.proofs.Building.{spaces-split, number-long, text-long, blank-long, group-long, type-long, test-long}
+use Rattle.writer.proofs.Building.{spaces-split, number-long, text-long, digits-beyond, digits-long, blank-long, group-long, type-long, test-long}
 use Rattle.record.proofs.Coding.{one-kind}
 use Rattle.writer.proofs.Accepting.{Accepted, takenAs, accepts, accepted-body}
 
@@ -57,17 +57,9 @@ abbrev pub AllSized : (fs : List Field) → Givens fs → Type 0
 AllSized [] g = Unit {0}
 AllSized (f ∷ fs) g = Sized f (g .0) × AllSized fs (g .1)
 
--- all of what is given
-abbrev Carries : (f : Field) → Given f → Type 0
-Carries (numeric w) n = n < pow10 w
-Carries (filled w) t = T (all isSpace (drop w t))
-Carries (optional w) t = T (all isSpace (drop w t))
-Carries (free w) t = T (all isSpace (drop w t))
-Carries (filler w) t = T (all isSpace t)
-
 abbrev AllCarry : (fs : List Field) → Givens fs → Type 0
 AllCarry [] g = Unit {0}
-AllCarry (f ∷ fs) g = Carries f (g .0) × AllCarry fs (g .1)
+AllCarry (f ∷ fs) g = (isUnfit f (g .0) ≡ false) × AllCarry fs (g .1)
 
 abbrev carried : (f : Field) → Given f → Value f
 carried (numeric w) n = n
@@ -104,33 +96,36 @@ unfit-blank : (w : ℕ) → 0 < w → T (all isSpace (unfit w)) → ⊥
 unfit-blank zero h t = omega arith
 unfit-blank (suc w) h t = t
 
+blank-beyond : (w : ℕ) (t : List ℕ) → not (isTextFit w t) ≡ false → all isSpace (drop w t) ≡ true
+blank-beyond w t u = and-second (all printable (take w t)) (all isSpace (drop w t)) (not-false (isTextFit w t) u)
+
 -- so a field that is well formed carries what was given
-text-back : (w : ℕ) (t : List ℕ) (b : List ℕ → Bool) → 0 < w → T (all printable (textIn w t) && b (textIn w t)) → T (all isSpace (drop w t)) × (textIn w t ≡ take w t)
+text-back : (w : ℕ) (t : List ℕ) (b : List ℕ → Bool) → 0 < w → T (all printable (textIn w t) && b (textIn w t)) → (not (isTextFit w t) ≡ false) × (textIn w t ≡ take w t)
 unfolding textIn pick
 text-back w t b h = by (all isSpace (drop w t)) refl
   where
-    by : (q : Bool) → all isSpace (drop w t) ≡ q → T (all printable (pick q (take w t) (unfit w)) && b (pick q (take w t) (unfit w))) → T (all isSpace (drop w t)) × (pick q (take w t) (unfit w) ≡ take w t)
-    by true e k = (of-eq _ e, refl)
+    by : (q : Bool) → all isSpace (drop w t) ≡ q → T (all printable (pick q (take w t) (unfit w)) && b (pick q (take w t) (unfit w))) → (not (isTextFit w t) ≡ false) × (pick q (take w t) (unfit w) ≡ take w t)
+    by true e k = (ap not (ap₂ _&&_ (yes (all printable (take w t)) (and-l (all printable (take w t)) (b (take w t)) k)) e), refl)
     by false e k = absurd (unfit-printable w (b (unfit w)) h k)
 
 and-true : (a : Bool) → T a → T (a && true)
 and-true true t = tt
 and-true false t = t
 
-pub field-back : (f : Field) (g : Given f) → Sized f g → T (wellFormed f (encodeField f g)) → Carries f g × (readField f (encodeField f g) ≡ carried f g)
+pub field-back : (f : Field) (g : Given f) → Sized f g → T (wellFormed f (encodeField f g)) → (isUnfit f g ≡ false) × (readField f (encodeField f g) ≡ carried f g)
 unfolding numberIn blankIn pick
 field-back (numeric w) n h = by (ltb n (pow10 w)) refl
   where
-    by : (q : Bool) → ltb n (pow10 w) ≡ q → T (all isDigit (pick q (decimal w n) (unfit w))) → (n < pow10 w) × (valueOf (pick q (decimal w n) (unfit w)) ≡ n)
-    by true e k = let b = ltb-true n (pow10 w) e in (b, value-decimal w n b)
+    by : (q : Bool) → ltb n (pow10 w) ≡ q → T (all isDigit (pick q (decimal w n) (unfit w))) → (leb (pow10 w) n ≡ false) × (valueOf (pick q (decimal w n) (unfit w)) ≡ n)
+    by true e k = let b = ltb-true n (pow10 w) e in (lt-leb (pow10 w) n b, value-decimal w n b)
     by false e k = absurd (unfit-digits w (h .0) k)
 field-back (filled w) t h = text-back w t leftJustified (h .0 .0)
 field-back (optional w) t h = text-back w t (λ l. all isSpace l || leftJustified l) (h .0 .0)
 field-back (free w) t h = λ k. text-back w t (λ l. true) (h .0 .0) (and-true (all printable (textIn w t)) k)
 field-back (filler w) t h = λ k. (by (all isSpace t) refl k, refl)
   where
-    by : (q : Bool) → all isSpace t ≡ q → T (all isSpace (pick q (spaces w) (unfit w))) → T (all isSpace t)
-    by true e k = of-eq _ e
+    by : (q : Bool) → all isSpace t ≡ q → T (all isSpace (pick q (spaces w) (unfit w))) → not (all isSpace t) ≡ false
+    by true e k = ap not e
     by false e k = absurd (unfit-blank w (h .0) k)
 
 -- fields that are written as what was given are what was given
@@ -148,7 +143,7 @@ fields-back (f ∷ fs) x g a h e =
 
 pub sized : (s : State) (t : List ℕ) → length t ≡ 35 → (e : Entry) → AllSized (layout (kindOf e)) (givenFor s t e)
 sized s t h (FileHeader d i c) =
-    let l = number-long 4 i (omega arith) in
+    let l = digits-long 4 i (omega arith) in
     ((omega arith, omega arith), (((omega arith, omega arith), omega arith), (((omega arith, omega arith), omega arith), (((omega arith, omega arith), omega (arith, l)), ((omega arith, omega arith), ((omega arith, omega arith), tt))))))
 sized s t h (BatchHeader g a q true) =
     let l = group-long g in
@@ -198,16 +193,16 @@ decimal-of i h =
     ap (λ m. digitsOf m .value) (take-all 4 (decimal 4 i) (omega (arith, length-decimal 4 i)))
     ∙ sym (ap (λ (r : Digits). r .value) (digits-are (decimal 4 i) l d (sym (value-decimal 4 i h))))
 
-identification-of : (i : ℕ) → T (all printable (take 4 (numberIn 4 i)) && leftJustified (take 4 (numberIn 4 i))) → digitsOf (take 4 (numberIn 4 i)) .value ≡ i
-unfolding numberIn pick
+identification-of : (i : ℕ) → not (isTextFit 4 (digitsFor 4 i)) ≡ false → digitsOf (take 4 (digitsFor 4 i)) .value ≡ i
+unfolding digitsFor pick
 identification-of i = by (ltb i (pow10 4)) refl
   where
-    by : (q : Bool) → ltb i (pow10 4) ≡ q → T (all printable (take 4 (pick q (decimal 4 i) (unfit 4))) && leftJustified (take 4 (pick q (decimal 4 i) (unfit 4)))) → digitsOf (take 4 (pick q (decimal 4 i) (unfit 4))) .value ≡ i
-    by true e t = decimal-of i (ltb-true i (pow10 4) e)
-    by false e t = absurd t
+    by : (q : Bool) → ltb i (pow10 4) ≡ q → not (isTextFit 4 (pick q (decimal 4 i) (decimal 20 i))) ≡ false → digitsOf (take 4 (pick q (decimal 4 i) (decimal 20 i))) .value ≡ i
+    by true e u = decimal-of i (ltb-true i (pow10 4) e)
+    by false e u = absurd (true≢false (sym (blank-beyond 4 (decimal 20 i) u) ∙ digits-beyond 4 i (omega arith)))
 
-record-back : (s : State) (t : List ℕ) (e : Entry) → Fits (layout (kindOf e)) (allCarried (layout (kindOf e)) (givenFor s t e)) → recordFor (kindOf e) (allCarried (layout (kindOf e)) (givenFor s t e)) ≡ recordOf s e
-record-back s t (FileHeader d i c) f = ap (λ n. read.FileHeader d n c) (identification-of i (f .1 .1 .1 .0 .1))
+record-back : (s : State) (t : List ℕ) (e : Entry) → AllCarry (layout (kindOf e)) (givenFor s t e) → recordFor (kindOf e) (allCarried (layout (kindOf e)) (givenFor s t e)) ≡ recordOf s e
+record-back s t (FileHeader d i c) f = ap (λ n. read.FileHeader d n c) (identification-of i (f .1 .1 .1 .0))
 record-back s t (BatchHeader g a q true) f = ap (λ y. read.BatchHeader y a q true) (group-of g)
 record-back s t (BatchHeader g a q false) f = ap (λ y. read.BatchHeader y a q false) (group-of g)
 record-back s t FixedDescription f = refl
@@ -229,14 +224,14 @@ padded-is w t h k =
     let d : drop w (spaces 35) ≡ spaces (35 - w) = ap (λ n. drop w (spaces n)) z ∙ ap (drop w) (spaces-split w (35 - w)) ∙ drop-at (spaces w) (spaces (35 - w)) w (length-replicate w 32) in
     put-front noText t (omega arith) refl ∙ ap (λ n. t ++ drop n noText) h ∙ ap (λ r. t ++ r) d
 
-text-all : (w : ℕ) (t : List ℕ) → length t ≡ 35 → w ≤ 35 → T (all isSpace (drop w t)) → padded (take w t) ≡ t
-text-all w t h k b =
+text-all : (w : ℕ) (t : List ℕ) → length t ≡ 35 → w ≤ 35 → not (isTextFit w t) ≡ false → padded (take w t) ≡ t
+text-all w t h k u =
     padded-is w (take w t) (length-take-le w t (omega arith)) k
-    ∙ ap (λ r. take w t ++ r) (sym (blank (35 - w) (drop w t) (rw length-drop (omega arith)) b))
+    ∙ ap (λ r. take w t ++ r) (sym (blank (35 - w) (drop w t) (rw length-drop (omega arith)) (of-eq _ (blank-beyond w t u))))
     ∙ take-append-drop w t
 
-text-none : (t : List ℕ) → length t ≡ 35 → T (all isSpace t) → noText ≡ t
-text-none t h b = sym (blank 35 t h b)
+text-none : (t : List ℕ) → length t ≡ 35 → not (all isSpace t) ≡ false → noText ≡ t
+text-none t h u = sym (blank 35 t h (of-eq _ (not-false (all isSpace t) u)))
 
 text-back-is : (s : State) (t : List ℕ) (e : Entry) → length t ≡ 35 → AllCarry (layout (kindOf e)) (givenFor s t e) → textFor (kindOf e) (allCarried (layout (kindOf e)) (givenFor s t e)) ≡ t
 text-back-is s t (FileHeader d i c) h b = text-all 5 t h (omega arith) (b .1 .1 .0)
@@ -286,7 +281,7 @@ module _ (s : State) (e : Entry) (t : List ℕ) (h : length t ≡ 35) where
       let f : Fits (layout (kindOf e)) x = subst (λ m. Fits (layout m) (fieldsOf m (take 50 (lineFor s e t)))) q (a .fields .fits) in
       let w : take 45 (drop 5 (take 50 (lineFor s e t))) ≡ writeFields (layout (kindOf e)) x = accepted-body a ∙ ap (λ m. writeFields (layout m) (fieldsOf m (take 50 (lineFor s e t)))) q in
       let b = fields-back (layout (kindOf e)) x (givenFor s t e) f (sized s t h e) (sym w ∙ front-body) in
-      let r = ap (recordFor (kindOf e)) (b .0) ∙ record-back s t e (subst (Fits (layout (kindOf e))) (b .0) f) in
+      let r = ap (recordFor (kindOf e)) (b .0) ∙ record-back s t e (b .1) in
       let y = ap (textFor (kindOf e)) (b .0) ∙ text-back-is s t e h (b .1) in
       a .step ∙ ap (λ m. takenAs s m (fieldsOf m (take 50 (lineFor s e t)))) q
       ∙ ap₂ (λ i j. record { answer = 0; line = s .line + 1; column = 0; next = nextFor s (kindOf e) x; read = i; text = j }) r y

@@ -1,16 +1,18 @@
 -- A line, field after field. Assumes nothing.
-use Prim.Native.Nat.{ℕ, zero, suc, _+_, _-_, _≤_}
+use Prim.Native.Nat.{ℕ, zero, suc, _+_, _-_, _≤_, _<_}
 use mathlib.Core.Path.{_≡_, refl, sym, _∙_, ap, ap₂, subst}
 use mathlib.Core.List.{List, [], _∷_, _++_, append-assoc, append-nil}
-use mathlib.Core.Bool.{Bool, true, false}
+use mathlib.Core.Bool.{Bool, true, false, _&&_}
 use native.Mathlib.Omega.{arith}
 use borrow.Author.Needs.{needs}
 use lib.ListN.{length, take, drop, length-append, length-replicate, drop-of-length-le}
 use lib.Seq.{take-all, take-at, drop-at, drop-append-add, length-take-le}
-use lib.Dec.{ltb}
-use Rattle.machine.specs.Lists.{pick, all, isSpace, spaces, placed, putIn}
+use borrow.Author.Tests.{ne-eqb}
+use lib.Dec.{T, leb, ltb, leb→le}
+use Rattle.machine.specs.Lists.{pick, all, isDigit, isSpace, spaces, placed, putIn}
 use Rattle.machine.specs.Digits.{pow10, decimal}
-use Rattle.machine.proofs.Digits.{length-decimal}
+use Rattle.machine.proofs.Base.{and-l}
+use Rattle.machine.proofs.Digits.{length-decimal, decimal-digits, decimal-last}
 use Rattle.field.proofs.Putting.{put-fits}
 use Rattle.format.specs.Fields.{filled, filler}
 use Rattle.format.specs.Records.{layout, code}
@@ -23,7 +25,7 @@ use Rattle.format.specs.declared.Kind.the-variants as kinds
 use Rattle.record.specs.declared.Transaction.{Transaction}
 use Rattle.reading.specs.declared.State.{State}
 use Rattle.writer.specs.Encoding.{unfit, numberIn, textIn, blankIn, lineEnd, encodedLine, testText}
-use Rattle.writer.specs.Entries.{fileHeaderGiven, orderingPartyGiven, itemGiven, batchTrailerGiven, kindOf, givenFor, lineFor}
+use Rattle.writer.specs.Entries.{digitsFor, fileHeaderGiven, orderingPartyGiven, itemGiven, batchTrailerGiven, kindOf, givenFor, lineFor}
 use Rattle.writer.specs.Inner.{headerStart, batchHeaderLine}
 use Rattle.writer.specs.declared.Entry.{Entry}
 use Rattle.writer.specs.declared.Entry.the-variants.{BatchHeader}
@@ -61,6 +63,35 @@ blank-long w t h = by (all isSpace t)
 pub exact : (w : ℕ) (t : List ℕ) → length t ≡ w → textIn w t ≡ t
 unfolding textIn pick
 exact w t h = let k : length t ≤ w = omega arith in rw (drop-of-length-le t k) (take-all w t k)
+
+-- ## A number for a field of characters
+
+digits-unblank : (l : List ℕ) → 0 < length l → T (all isDigit l) → all isSpace l ≡ false
+digits-unblank [] h t = absurd (omega arith)
+digits-unblank (c ∷ l) h t =
+    let lo = leb→le 48 c (and-l (leb 48 c) (leb c 57) (and-l (isDigit c) (all isDigit l) t)) in
+    ap (λ q. q && all isSpace l) (ne-eqb c 32 (λ e. omega arith))
+
+pub digits-beyond : (w n : ℕ) → w < 20 → all isSpace (drop w (decimal 20 n)) ≡ false
+digits-beyond w n h = ap (all isSpace) (decimal-last w (20 - w) 20 n (omega arith)) ∙ digits-unblank (decimal (20 - w) n) (omega (arith, length-decimal (20 - w) n)) (decimal-digits (20 - w) n)
+
+pub digits-long : (w n : ℕ) → w < 20 → w ≤ length (digitsFor w n)
+unfolding digitsFor pick
+digits-long w n h = by (ltb n (pow10 w))
+  where
+    by : (q : Bool) → w ≤ length (pick q (decimal w n) (decimal 20 n))
+    by true = omega (arith, length-decimal w n)
+    by false = omega (arith, length-decimal 20 n)
+
+pub digits-in : (w n : ℕ) → w < 20 → textIn w (digitsFor w n) ≡ numberIn w n
+unfolding textIn numberIn digitsFor pick
+digits-in w n h = by (ltb n (pow10 w))
+  where
+    by : (q : Bool) → pick (all isSpace (drop w (pick q (decimal w n) (decimal 20 n)))) (take w (pick q (decimal w n) (decimal 20 n))) (unfit w) ≡ pick q (decimal w n) (unfit w)
+    by true = exact w (decimal w n) (length-decimal w n)
+    by false = rw (digits-beyond w n h)
+
+-- ## How long a text is
 
 pub group-long : (g : Group) → length (groupText g) ≡ 2
 group-long Payments = refl
@@ -146,7 +177,7 @@ file-header-is x y z t h p q u v w m =
     let b1 = number 6 39 5 (start (code kinds.FileHeader) refl p) x (omega arith) q in
     let b2 = fixed 8 31 11 b1 CLIEOP03 refl u in
     let b3 = given 5 26 19 b2 t (omega arith) (omega arith) v in
-    let b4 = fixed 4 22 24 b3 (numberIn 4 y) (number-long 4 y (omega arith)) w in
+    let b4 = given 4 22 24 b3 (digitsFor 4 y) (omega arith) (digits-long 4 y (omega arith)) (w ∙ ap (putIn _ 24) (sym (digits-in 4 y (omega arith)))) in
     let b5 = number 1 21 28 b4 z (omega arith) m in
     b5 .is ∙ simp append-assoc
 

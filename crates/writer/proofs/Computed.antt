@@ -12,12 +12,12 @@ use Rattle.reading.specs.State.{isKept, within}
 use Rattle.reading.specs.Order.{mayOpen, mayEnd, mayPay, mayName, mayText, mayRefer, textsBy, allowed}
 use Rattle.reading.specs.Step.{judgedAs, judgedKind, judgedLine, isWhole, judgedFirst, stepAt}
 use Rattle.writer.specs.Encoding.{numberIn, textIn, blankIn, encodedLine}
-use Rattle.writer.specs.Entries.{lineFor}
+use Rattle.writer.specs.Entries.{digitsFor, lineFor}
 use Rattle.writer.specs.Writing.{writtenOf}
 use Rattle.writer.specs.Cases.{Cases}
 
 pub cases : Cases
-unfolding pick same digitsOnto decimal valueAfter daysIn isDate isDesiredDate isTestCode isIdentification isOfDay weighted isEleven isOrderingAccount isAccount isOwnPayer isOwnBeneficiary typeOf fieldNo firstOr digitsOf codeOf debitCode batchCode fileCode firstFault faultOf padded isKept within mayOpen mayEnd mayPay mayName mayText mayRefer textsBy allowed judgedAs judgedKind judgedLine isWhole judgedFirst stepAt numberIn textIn blankIn encodedLine lineFor writtenOf
+unfolding pick same digitsOnto decimal valueAfter daysIn isDate isDesiredDate isTestCode isIdentification isOfDay weighted isEleven isOrderingAccount isAccount isOwnPayer isOwnBeneficiary typeOf fieldNo firstOr digitsOf codeOf debitCode batchCode fileCode firstFault faultOf padded isKept within mayOpen mayEnd mayPay mayName mayText mayRefer textsBy allowed judgedAs judgedKind judgedLine isWhole judgedFirst stepAt numberIn textIn blankIn encodedLine digitsFor lineFor writtenOf
 cases =
     record {
       header = refl;

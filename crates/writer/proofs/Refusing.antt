@@ -1,5 +1,5 @@
 -- What a field cannot carry is refused: 4 at its column, or another answer further left. Assumes nothing.
-use Prim.Native.Nat.{ℕ, zero, suc, _+_, _-_, _≤_, _<_}
+use Prim.Native.Nat.{ℕ, _+_, _-_, _≤_, _<_}
 use mathlib.Core.Path.{_≡_, refl, sym, ap, ap₂, _∙_, subst}
 use mathlib.Core.List.{List, [], _∷_, _++_}
 use mathlib.Core.Bool.{Bool, true, false}
@@ -8,15 +8,15 @@ use borrow.Author.Tests.{eq-eqb, ne-eqb}
 use lib.ListN.{length, take, drop}
 use lib.Seq.{take-at, take-add, take-take, drop-at, drop-drop}
 use lib.Dec.{T, eqb}
-use Rattle.machine.specs.Lists.{pick, same}
-use Rattle.machine.proofs.Base.{of-eq, same→eq}
-use Rattle.format.specs.Fields.{Field, numeric, filled, optional, free, filler, width, widths}
+use Rattle.machine.specs.Lists.{pick}
+use Rattle.machine.proofs.Base.{of-eq, true≢false}
+use Rattle.format.specs.Fields.{Field, numeric, filled, optional, free, filler, width, widths, wellFormed}
 use Rattle.format.specs.Records.{layout, code}
 use Rattle.format.specs.Tests.{Test, Tests}
 use Rattle.format.specs.declared.Code.{Code}
 use Rattle.format.specs.declared.Code.the-variants.{Of, Unknown}
 use Rattle.format.proofs.Link.{line-widths}
-use Rattle.field.specs.Rows.{Row, cut, fieldNo, rowsAt, checkRows, firstOr}
+use Rattle.field.specs.Rows.{Row, cut, firstNo, fieldNo, rowsAt, checkRows, firstOr}
 use Rattle.record.specs.Kinds.{codeOf}
 use Rattle.record.specs.Faults.{faultAt, noFault, firstFault, fieldsOf, testsFor, maximaFor, faultOf}
 use Rattle.record.specs.declared.Fault.{Fault}
@@ -26,32 +26,28 @@ use Rattle.reading.specs.Step.{nextFor, refused, taken, judgedAs, judgedKind, j
 use Rattle.reading.specs.declared.State.{State}
 use Rattle.reading.specs.declared.Judged.{Judged}
 use Rattle.reading.specs.declared.LineRead.{LineRead}
-use Rattle.writer.specs.Encoding.{unfit, Given, Givens, encodeField, encodeFields}
+use Rattle.writer.specs.Encoding.{Given, Givens, encodeField, encodeFields}
 use Rattle.writer.specs.Entries.{kindOf, givenFor, lineFor}
 use Rattle.writer.specs.Writing.{answered, writtenBy, writtenOf}
-use Rattle.writer.specs.Promises.{unfitFrom, unfitColumn, RefusedBy, RefusesUnfit}
+use Rattle.writer.specs.Promises.{isUnfit, unfitFrom, unfitColumn, RefusedBy, RefusesUnfit}
 use Rattle.writer.specs.declared.Entry.{Entry}
 use Rattle.writer.specs.declared.Written.{Written}
 use Rattle.writer.proofs.Placing.{answer-via}
 use Rattle.reading.proofs.Answers.{step-first}
 use Rattle.record.proofs.Coding.{code-found}
 use Rattle.writer.proofs.Accepting.{step-answer}
-use Rattle.writer.proofs.Back.{Sized, AllSized, field-long, sized, line-52, front-code, front-body}
+use Rattle.writer.proofs.Back.{Sized, AllSized, field-long, field-back, sized, line-52, front-code, front-body}
 
 -- ## Rows
 
-unfit-no : (f : Field) (ts : List Test) → 0 < width f → fieldNo f ts (unfit (width f)) ≡ 4
+-- what is well formed carries what was given
+unfit-no : (f : Field) (ts : List Test) (g : Given f) → Sized f g → isUnfit f g ≡ true → fieldNo f ts (encodeField f g) ≡ 4
 unfolding fieldNo pick
-unfit-no (numeric zero) ts h = absurd (omega arith)
-unfit-no (numeric (suc w)) ts h = refl
-unfit-no (filled zero) ts h = absurd (omega arith)
-unfit-no (filled (suc w)) ts h = refl
-unfit-no (optional zero) ts h = absurd (omega arith)
-unfit-no (optional (suc w)) ts h = refl
-unfit-no (free zero) ts h = absurd (omega arith)
-unfit-no (free (suc w)) ts h = refl
-unfit-no (filler zero) ts h = absurd (omega arith)
-unfit-no (filler (suc w)) ts h = refl
+unfit-no f ts g h u = by (wellFormed f (encodeField f g)) refl
+  where
+    by : (q : Bool) → wellFormed f (encodeField f g) ≡ q → pick q (firstNo ts) 4 ≡ 4
+    by true e = absurd (true≢false (sym u ∙ field-back f g h (of-eq _ e) .0))
+    by false e = refl
 
 some-width : (f : Field) (g : Given f) → Sized f g → 0 < width f
 some-width (numeric w) g h = h .0
@@ -63,7 +59,7 @@ some-width (filler w) g h = h .0
 unfit-from : (c : ℕ) (fs : List Field) (g : Givens fs) → (unfitFrom c fs g ≡ 0 → ⊥) → c ≤ unfitFrom c fs g
 unfolding pick
 unfit-from c [] g z = absurd (z refl)
-unfit-from c (f ∷ fs) g z = by (same (encodeField f (g .0)) (unfit (width f))) (unfit-from (c + width f) fs (g .1)) z
+unfit-from c (f ∷ fs) g z = by (isUnfit f (g .0)) (unfit-from (c + width f) fs (g .1)) z
   where
     by : (q : Bool) → ((unfitFrom (c + width f) fs (g .1) ≡ 0 → ⊥) → c + width f ≤ unfitFrom (c + width f) fs (g .1)) → (pick q c (unfitFrom (c + width f) fs (g .1)) ≡ 0 → ⊥) → c ≤ pick q c (unfitFrom (c + width f) fs (g .1))
     by true h z = omega arith
@@ -88,7 +84,7 @@ rows-unfit c (f ∷ fs) t g xs k h p e z =
     = sym (drop-at (encodeField f (g .0)) (take (widths fs) (drop (c + width f - 1) xs)) (width f) w)
     ∙ ap (drop (width f)) (sym (take-add (width f) (widths fs) d ∙ ap₂ _++_ a (ap (take (widths fs)) (drop-drop (width f) (c - 1) xs ∙ ap (λ i. drop i xs) q))) ∙ e)
     ∙ drop-at (encodeField f (g .0)) (encodeFields fs (g .1)) (width f) w in
-    by (same (encodeField f (g .0)) (unfit (width f))) refl (eqb no 0) refl a (rows-unfit (c + width f) fs (t .1) (g .1) xs k (h .1) (omega arith) b) z
+    by (isUnfit f (g .0)) refl (eqb no 0) refl a (rows-unfit (c + width f) fs (t .1) (g .1) xs k (h .1) (omega arith) b) z
   where
     no : ℕ
     no = fieldNo f (t .0) (cut c (width f) xs)
@@ -102,10 +98,10 @@ rows-unfit c (f ∷ fs) t g xs k h p e z =
     some-no : eqb no 0 ≡ false → no ≡ 0 → ⊥
     some-no y n = subst T (sym (eq-eqb no 0 n) ∙ y) tt
 
-    four : same (encodeField f (g .0)) (unfit (width f)) ≡ true → cut c (width f) xs ≡ encodeField f (g .0) → no ≡ 4
-    four u a = ap (fieldNo f (t .0)) (a ∙ same→eq (encodeField f (g .0)) (unfit (width f)) (of-eq _ u)) ∙ unfit-no f (t .0) (some-width f (g .0) (h .0))
+    four : isUnfit f (g .0) ≡ true → cut c (width f) xs ≡ encodeField f (g .0) → no ≡ 4
+    four u a = ap (fieldNo f (t .0)) a ∙ unfit-no f (t .0) (g .0) (h .0) u
 
-    by : (u : Bool) → same (encodeField f (g .0)) (unfit (width f)) ≡ u → (v : Bool) → eqb no 0 ≡ v → cut c (width f) xs ≡ encodeField f (g .0) → ((later ≡ 0 → ⊥) → Stopped later (rest .number) (rest .column)) → (pick u c later ≡ 0 → ⊥)
+    by : (u : Bool) → isUnfit f (g .0) ≡ u → (v : Bool) → eqb no 0 ≡ v → cut c (width f) xs ≡ encodeField f (g .0) → ((later ≡ 0 → ⊥) → Stopped later (rest .number) (rest .column)) → (pick u c later ≡ 0 → ⊥)
         → Stopped (pick u c later) (pick v rest (faultAt c no) .number) (pick v rest (faultAt c no) .column)
     by true x true y a r z = absurd (subst T (sym y ∙ ne-eqb no 0 (λ n. let k = four x a in omega arith)) tt)
     by true x false y a r z = record { some = some-no y; no-later = omega arith; there = λ i. four x a }

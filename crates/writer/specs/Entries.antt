@@ -2,6 +2,9 @@
 use Prim.Native.Nat.{ℕ}
 use mathlib.Core.List.{List, []}
 use mathlib.Core.Bool.{Bool, true, false}
+use lib.Dec.{ltb}
+use Rattle.machine.specs.Lists.{pick}
+use Rattle.machine.specs.Digits.{pow10, decimal}
 use Rattle.format.specs.Records.{layout, code}
 use Rattle.format.specs.Rules.{CLIEOP03, EUR, groupText, typeText}
 use Rattle.format.specs.declared.Kind.{Kind}
@@ -9,7 +12,7 @@ use Rattle.format.specs.declared.Kind.the-variants as kinds
 use Rattle.format.specs.declared.Group.{Group}
 use Rattle.record.specs.declared.Transaction.{Transaction}
 use Rattle.reading.specs.declared.State.{State}
-use Rattle.writer.specs.Encoding.{numberIn, Givens, encodedLine, testText}
+use Rattle.writer.specs.Encoding.{Givens, encodedLine, testText}
 use Rattle.writer.specs.declared.Entry.{Entry}
 use Rattle.writer.specs.declared.Entry.the-variants.{FileHeader, BatchHeader, FixedDescription, OrderingParty, Item, NamePayer, PaymentReference, Description, NameBeneficiary, BatchTrailer, FileTrailer}
 
@@ -29,8 +32,12 @@ kindOf FileTrailer = kinds.FileTrailer
 
 -- ## Field by field. Where a record has no text, none may be given for the first of its blank fields
 
+-- the identification is a number for a field of characters: in so many digits, or in twenty where it is too large
+unfoldable pub digitsFor : ℕ → ℕ → List ℕ
+digitsFor w n = pick (ltb n (pow10 w)) (decimal w n) (decimal 20 n)
+
 abbrev pub fileHeaderGiven : ℕ → ℕ → ℕ → List ℕ → Givens (layout kinds.FileHeader)
-fileHeaderGiven created identification duplicate t = (created, (CLIEOP03, (t, (numberIn 4 identification, (duplicate, ([], tt))))))
+fileHeaderGiven created identification duplicate t = (created, (CLIEOP03, (t, (digitsFor 4 identification, (duplicate, ([], tt))))))
 
 -- of both variants: the text is the batch identification, which is blank for B
 abbrev pub batchHeaderGiven : Group → ℕ → ℕ → List ℕ → Givens (layout kinds.BatchHeaderB)

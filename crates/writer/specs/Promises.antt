@@ -3,17 +3,20 @@ use Prim.Native.Nat.{ℕ, _+_, _≤_}
 use mathlib.Core.Path.{_≡_}
 use mathlib.Core.Logic.{_≢_}
 use mathlib.Core.List.{List, [], _∷_, _++_}
+use mathlib.Core.Bool.{Bool, not, _&&_}
 use mathlib.Core.Option.{Option, none, some}
-use lib.ListN.{take}
-use Rattle.machine.specs.Lists.{pick, same}
-use Rattle.format.specs.Fields.{Field, width}
+use lib.ListN.{take, drop}
+use lib.Dec.{leb}
+use Rattle.machine.specs.Lists.{pick, all, isSpace}
+use Rattle.machine.specs.Digits.{pow10}
+use Rattle.format.specs.Fields.{Field, numeric, filled, optional, free, filler, width, printable}
 use Rattle.format.specs.Records.{layout}
 use Rattle.format.specs.Answers.{accepted, wrongForm}
 use Rattle.record.specs.declared.Record.{Record}
 use Rattle.record.specs.declared.Record.the-variants as read
 use Rattle.reading.specs.Step.{stepAt}
 use Rattle.reading.specs.declared.State.{State}
-use Rattle.writer.specs.Encoding.{unfit, Givens, encodeField}
+use Rattle.writer.specs.Encoding.{Given, Givens}
 use Rattle.writer.specs.Entries.{kindOf, givenFor}
 use Rattle.writer.specs.Writing.{answered}
 use Rattle.writer.specs.declared.Entry.{Entry}
@@ -70,10 +73,22 @@ unfoldable pub WritesAgain : State → Entry → List ℕ → ℕ → Written �
 WritesAgain s e t room w out =
     52 ≤ room → (xs : List ℕ) → stepAt s xs .answer ≡ accepted → entryOf (stepAt s xs .read) ≡ some e → stepAt s xs .text ≡ t → WrittenAsRead s xs w out
 
+-- a text that a field of this width can carry: of 'bytes 32 to 126', with only spaces beyond the field
+abbrev pub isTextFit : ℕ → List ℕ → Bool
+isTextFit w t = all printable (take w t) && all isSpace (drop w t)
+
+-- what a field cannot carry: 'A number too large for its field', a text unfit for it, and a text where the record has none
+abbrev pub isUnfit : (f : Field) → Given f → Bool
+isUnfit (numeric w) n = leb (pow10 w) n
+isUnfit (filled w) t = not (isTextFit w t)
+isUnfit (optional w) t = not (isTextFit w t)
+isUnfit (free w) t = not (isTextFit w t)
+isUnfit (filler w) t = not (all isSpace t)
+
 -- the column of the first field that cannot carry what is given for it, 0 where each can
 abbrev pub unfitFrom : ℕ → (fs : List Field) → Givens fs → ℕ
 unfitFrom c [] x = 0
-unfitFrom c (f ∷ fs) x = pick (same (encodeField f (x .0)) (unfit (width f))) c (unfitFrom (c + width f) fs (x .1))
+unfitFrom c (f ∷ fs) x = pick (isUnfit f (x .0)) c (unfitFrom (c + width f) fs (x .1))
 
 abbrev pub unfitColumn : State → Entry → List ℕ → ℕ
 unfitColumn s e t = unfitFrom 6 (layout (kindOf e)) (givenFor s t e)
