@@ -5,7 +5,7 @@ use mathlib.Core.List.{List, [], _∷_, _++_, append-assoc}
 use mathlib.Core.Bool.{Bool, true, false, not}
 use mathlib.Core.Option.{Option, none, some}
 use native.Mathlib.Omega.{arith}
-use borrow.Author.Tests.{leb-true, eqb-true, eq-eqb}
+use borrow.Author.Tests.{eqb-true, eq-eqb}
 use lib.ListN.{length, getD, take, drop, take-append-drop, length-drop}
 use lib.Seq.{take-all, take-add, take-take, drop-cons, drop-drop, length-take-le}
 use lib.Dec.{T, eqb, leb}
@@ -35,7 +35,7 @@ use Rattle.reading.specs.declared.State.{State}
 use Rattle.reading.specs.declared.Judged.{Judged}
 use Rattle.reading.specs.declared.LineRead.{LineRead}
 use Rattle.reading.proofs.Answers.{step-first}
-use Rattle.reading.proofs.Running.{first-52}
+use Rattle.reading.proofs.Running.{first-52, whole-long}
 use Rattle.reading.proofs.Verdicts.{Taken, takes}
 use Rattle.writer.specs.Encoding.{lineEnd}
 
@@ -131,16 +131,12 @@ pub record Accepted (s : State) (xs : List ℕ) : Type 0 where
   pub fields : Faultless 6 (layout kind) (testsFor (s .said) (s .group) (s .batch) kind (fieldsOf kind (take 50 xs))) (take 50 xs)
   pub step : stepAt s xs ≡ takenAs s kind (fieldsOf kind (take 50 xs))
 
-long : (xs : List ℕ) → isWhole xs ≡ true → 52 ≤ length xs
-unfolding isWhole
-long xs w = leb-true 52 (length xs) (and-first _ _ w)
-
 of-taken : {s : State} {xs : List ℕ} (t : Taken s xs) → stepAt s xs ≡ readBy (take 50 xs) (judgedFirst s xs .code) (judgedFirst s xs) → Accepted s xs
 unfolding faultOf firstFault
 of-taken {s} {xs} t e =
     let k = t .kind in
     let x = fieldsOf k (take 50 xs) in
-    let l : length (take 50 xs) ≡ 50 = length-take-le 50 xs (omega (arith, long xs (t .whole))) in
+    let l : length (take 50 xs) ≡ 50 = length-take-le 50 xs (omega (arith, whole-long xs (t .whole))) in
     let v = line-widths k .1 in
     record {
       whole = t .whole;
@@ -164,7 +160,7 @@ accepts s xs h z =
 -- its 52 bytes by its fields
 module _ {s : State} {xs : List ℕ} (a : Accepted s xs) where
   pub accepted-long : 52 ≤ length xs
-  accepted-long = long xs (a .whole)
+  accepted-long = whole-long xs (a .whole)
 
   pub accepted-code : take 5 (take 50 xs) ≡ code (a .kind)
   accepted-code = code-is (take 5 (take 50 xs)) (a .kind) (a .coded)
