@@ -41,7 +41,10 @@ pub fn open(i: usize, name: &mut [u8]) -> Input
     }
     if error != 0 {
         os::fail(b"file name");
-        return Input { fd: -1, characters: n };
+        return Input {
+            fd: -1,
+            characters: n,
+        };
     }
     let fd = open_named(&name[..n]);
     Input { fd, characters: n }
