@@ -49,7 +49,7 @@ fn digit(d: u64) -> u8
 }
 
 // A number in the twenty digits that every number fits.
-pub fn digits_of(n: u64) -> [u8; 20]
+pub fn spelt(n: u64) -> [u8; 20]
     ensures { λ r. ⌜ r ≡ decimal 20 n ⌝ }
 {
     let mut digits = [48u8; 20];

@@ -8,7 +8,7 @@ ghost use Rattle.machine.specs.Lists.{placed};
 ghost use Rattle.page.specs.Lines.{lineOf, withLine, withoutZeros, numberText, withAnswer, withInput};
 use field::bytes::part;
 use field::bytes::put;
-use field::numbers::digits_of;
+use field::numbers::spelt;
 
 // Whether a line of that key and text has room.
 fn has_room(size: usize, at: usize, key: usize, text: usize) -> bool
@@ -78,7 +78,7 @@ fn zeros(digits: &[u8], most: usize) -> usize
 pub fn put_number(page: &mut [u8], at: usize, key: &[u8], n: u64, least: usize) -> usize
     ensures { λ r. ⌜ (now (page .exit), r) ≡ withLine (now (page .entry), at) (lineOf (now (key .entry)) (numberText least n)) ⌝ }
 {
-    let digits = digits_of(n);
+    let digits = spelt(n);
     let z = zeros(&digits, spare(least));
     put_line(page, at, key, part(&digits, z, 20))
 }

@@ -9,7 +9,7 @@ ghost use Rattle.writer.specs.Encoding.{unfit, numberIn, textIn, testTex
 use field::bytes::is_blank;
 use field::bytes::part;
 use field::bytes::put;
-use field::numbers::digits_of;
+use field::numbers::spelt;
 use format::Group;
 use format::TransactionType;
 
@@ -50,7 +50,7 @@ pub(crate) fn put_number(line: [u8; 52], at: usize, width: usize, n: u64) -> [u8
     ensures { λ r. ⌜ r ≡ putIn line at (numberIn width n) ⌝ }
 {
     if is_within(n, width) {
-        let digits = digits_of(n);
+        let digits = spelt(n);
         return put_bytes(line, at, part(&digits, 20 - width, width));
     }
     put_unfit(line, at, width)

@@ -7,7 +7,7 @@ pub put-number-spec : {M : Type 1} → statement M
 put-number-spec =
     tie.close
     (tie.spec
-    (λ c κs. search needs)  -- digits-of-requires
+    (λ c κs. search needs)  -- spelt-requires
     (λ c. search needs)  -- slice-aggregate-zeros
     (λ c κs. search needs)  -- spare-requires
     (λ c κs. search needs)  -- zeros-requires

@@ -8,7 +8,7 @@ put-number-spec =
     tie.close
     (tie.spec
     (λ c κs. search needs)  -- is-within-requires
-    (λ c κs. search needs)  -- digits-of-requires
+    (λ c κs. search needs)  -- spelt-requires
     (λ c. search needs)  -- slice-aggregate-part
     (λ c. search needs)  -- sub-part
     (λ c κs. search needs)  -- part-requires

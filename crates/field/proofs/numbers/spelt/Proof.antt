@@ -1,6 +1,6 @@
 use Rattle.field.proofs.Spelling.{digits, Digiting}
-use Rattle.field.proofs.numbers.digits_of.Statement.{statement}
-use Rattle.field.proofs.numbers.digits_of.Tie as tie
+use Rattle.field.proofs.numbers.spelt.Statement.{statement}
+use Rattle.field.proofs.numbers.spelt.Tie as tie
 
 abbrev Inv-loop : tie.InvT-loop
 Inv-loop n digits₀ rest₀ i₀ digits rest i = Digiting n digits rest i
@@ -8,8 +8,8 @@ Inv-loop n digits₀ rest₀ i₀ digits rest i = Digiting n digits rest i
 abbrev μ-loop : tie.MeasureT-loop
 μ-loop n digits₀ rest₀ i₀ digits rest i = i
 
-pub digits-of-spec : {M : Type 1} → statement M
-digits-of-spec =
+pub spelt-spec : {M : Type 1} → statement M
+spelt-spec =
     tie.close
     (tie.spec
     Inv-loop
