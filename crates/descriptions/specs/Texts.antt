@@ -1,7 +1,6 @@
 -- Texts of 32 characters in four places: the merging of lists of them, and each function's result for every input.
 use Prim.Native.Nat.{ℕ, zero, suc, _*_}
 use mathlib.Core.List.{List, [], _∷_, _++_}
-use mathlib.Core.Bool.{Bool, true, false}
 use lib.ListN.{length, take, drop}
 use lib.Dec.{leb, ltb}
 use Rattle.machine.specs.Lists.{pick, spaces}
@@ -10,11 +9,6 @@ use Rattle.descriptions.specs.declared.Descriptions.{Descriptions}
 -- THE MERGING of lists of texts: 'the fixed ones, then the item's own, cut to the first four, or three with a reference'
 abbrev pub mergeOf : ℕ → List (List ℕ) → List (List ℕ) → List (List ℕ)
 mergeOf limit fixed own = take limit (fixed ++ own)
-
--- by whether there is a reference
-abbrev pub limitFor : Bool → ℕ
-limitFor true = 3
-limitFor false = 4
 
 -- ## In places
 

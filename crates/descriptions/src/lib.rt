@@ -4,7 +4,8 @@ ghost use mathlib.Core.List.{_++_};
 ghost use Prim.Native.Nat.{_+_, _*_, _≤_};
 ghost use lib.ListN.{take, drop};
 ghost use Rattle.machine.specs.Lists.{spaces};
-ghost use Rattle.descriptions.specs.Texts.{least, limitFor, noTexts, merged, withText};
+ghost use Rattle.format.specs.Rules.{mostDescriptions};
+ghost use Rattle.descriptions.specs.Texts.{least, noTexts, merged, withText};
 use field::bytes::part;
 use field::bytes::put;
 
@@ -16,7 +17,7 @@ pub struct Descriptions {
 
 // An item has three with a reference, four without.
 pub fn limit_for(reference: bool) -> u64
-    ensures { λ r. ⌜ r ≡ limitFor reference ⌝ }
+    ensures { λ r. ⌜ r ≡ mostDescriptions reference ⌝ }
 {
     if reference {
         return 3;

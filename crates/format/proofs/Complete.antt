@@ -12,8 +12,8 @@ use Rattle.machine.specs.Lists.{same, inRange}
 use Rattle.machine.proofs.Base.{and-i, same-refl}
 use Rattle.format.specs.Fields.{filled, Fit, Fits}
 use Rattle.format.specs.Records.{layout, Fields}
-use Rattle.format.specs.Rules.{maxAmount, maxTotal, maxItems, maxAccount, maxSequence, CLIEOP03, EUR, groupText, isGroup, groupOf, typeOf, isType, isTypeIn, needsName}
-use Rattle.format.specs.Language.{Name, Item, Batch, File, totalOf, accountsOf, tenDigits, Rec, fileHeaderRec, batchHeaderRec, fixedRecs, orderingPartyRec, transactionRec, referenceRecs, descriptionRecs, cityRecs, nameRecs, itemRecs, batchesRecs, fileTrailerRecs, fileRecs, In, TransactionOk, ReferenceOk, DescriptionsOk, CityOk, NameOk, ones, ItemOk, ItemsOk, Before, noneBefore, afterThat, Follows, BatchHeaderOk, OrderingPartyOk, BatchOk, BatchesOk, Valid}
+use Rattle.format.specs.Rules.{maxAmount, maxTotal, maxItems, maxAccount, maxSequence, mostDescriptions, CLIEOP03, EUR, groupText, isGroup, groupOf, typeOf, isType, isTypeIn, needsName}
+use Rattle.format.specs.Language.{Name, Item, Batch, File, totalOf, accountsOf, tenDigits, Rec, fileHeaderRec, batchHeaderRec, fixedRecs, orderingPartyRec, transactionRec, referenceRecs, descriptionRecs, cityRecs, nameRecs, itemRecs, batchesRecs, fileTrailerRecs, fileRecs, In, TransactionOk, ReferenceOk, DescriptionsOk, CityOk, NameOk, isSome, ItemOk, ItemsOk, Before, noneBefore, afterThat, Follows, BatchHeaderOk, OrderingPartyOk, BatchOk, BatchesOk, Valid}
 use Rattle.format.specs.Tests.{isNext, groupTests, batchHeaderTests, transactionTests}
 use Rattle.format.specs.declared.Kind.the-variants.{FileHeader, BatchHeaderB, BatchHeaderC, FixedDescription, OrderingParty, Transaction, NamePayer, CityPayer, PaymentReference, Description, NameBeneficiary, CityBeneficiary, BatchTrailer, FileTrailer}
 use Rattle.format.specs.declared.Group.{Group}
@@ -63,7 +63,7 @@ module _ {s : Context} {f h : Room → Phase} (B : Texts s f h) (k : List Rec) (
   descriptions-path (t ∷ ts) zero l o = absurd (omega arith)
   descriptions-path (t ∷ ts) (suc m) l o = B .next-step m t (descriptionRecs ts k) (o .0) (descriptions-path ts m (omega arith) (o .1))
 
-  texts-path : (reference : Option (List ℕ)) (ds : List (List ℕ)) → ones reference + length ds ≤ 4 → ReferenceOk reference → DescriptionsOk ds → Path (at (f fresh) s) (referenceRecs reference (descriptionRecs ds k))
+  texts-path : (reference : Option (List ℕ)) (ds : List (List ℕ)) → length ds ≤ mostDescriptions (isSome reference) → ReferenceOk reference → DescriptionsOk ds → Path (at (f fresh) s) (referenceRecs reference (descriptionRecs ds k))
   texts-path (some t) ds l r o = B .reference-step t (descriptionRecs ds k) r (descriptions-path ds 3 (omega arith) o)
   texts-path none [] l r o = kf fresh
   texts-path none (t ∷ ts) l r o = B .first-step t (descriptionRecs ts k) (o .0) (descriptions-path ts 3 (omega arith) (o .1))

@@ -12,8 +12,8 @@ use Rattle.machine.specs.Lists.{pick, same, inRange}
 use Rattle.machine.proofs.Base.{and-l, and-r, same→eq}
 use Rattle.format.specs.Fields.{filled, Fit, Fits}
 use Rattle.format.specs.Records.{layout, Fields, creationDate, fileName, sender, identification, duplicateCode, group, orderingAccount, sequence, currency, batchIdentification, unidentified, nameCode, desiredDate, partyName, testCode, type, amount, payer, beneficiary, totalAmount, totalAccounts, items}
-use Rattle.format.specs.Rules.{maxAmount, maxTotal, maxItems, maxAccount, maxSequence, CLIEOP03, EUR, groupText, isGroup, groupOf, typeOf, needsName}
-use Rattle.format.specs.Language.{Name, Item, Batch, File, totalOf, accountsOf, tenDigits, Rec, fileHeaderRec, batchHeaderRec, fixedRecs, transactionRec, referenceRecs, descriptionRecs, cityRecs, nameRecs, itemRecs, itemsRecs, batchTrailerRec, batchesRecs, fileTrailerRecs, fileRecs, In, TransactionOk, ReferenceOk, DescriptionsOk, CityOk, NameOk, ones, ItemOk, ItemsOk, Before, afterThat, Follows, IdentificationOk, BatchHeaderOk, OrderingPartyOk, BatchesOk, FileHeaderOk, Valid}
+use Rattle.format.specs.Rules.{maxAmount, maxTotal, maxItems, maxAccount, maxSequence, mostDescriptions, CLIEOP03, EUR, groupText, isGroup, groupOf, typeOf, needsName}
+use Rattle.format.specs.Language.{Name, Item, Batch, File, totalOf, accountsOf, tenDigits, Rec, fileHeaderRec, batchHeaderRec, fixedRecs, transactionRec, referenceRecs, descriptionRecs, cityRecs, nameRecs, itemRecs, itemsRecs, batchTrailerRec, batchesRecs, fileTrailerRecs, fileRecs, In, TransactionOk, ReferenceOk, DescriptionsOk, CityOk, NameOk, isSome, ItemOk, ItemsOk, Before, afterThat, Follows, IdentificationOk, BatchHeaderOk, OrderingPartyOk, BatchesOk, FileHeaderOk, Valid}
 use Rattle.format.specs.Tests.{isNext, groupTests, batchHeaderTests, transactionTests, batchTrailerTests}
 use Rattle.format.specs.declared.Kind.{Kind}
 use Rattle.format.specs.declared.Kind.the-variants.{FileHeader, BatchHeaderB, BatchHeaderC, FixedDescription, OrderingParty, Transaction, NamePayer, PaymentReference, Description, NameBeneficiary, BatchTrailer, FileTrailer}
@@ -55,7 +55,7 @@ record BatchesLeft (g : Group) (least : ℕ) (p : Before) (rs : List Rec) : Type
   equal : rs ≡ batchesRecs g batches fileTrailerRecs
 
 abbrev Within : Room → Option (List ℕ) → ℕ → Type 0
-Within fresh reference n = ones reference + n ≤ 4
+Within fresh reference n = n ≤ mostDescriptions (isSome reference)
 Within (left m) reference n = (reference ≡ none) × (n ≤ m)
 
 record TextsLeft (More : List Rec → Type 0) (r : Room) (rs : List Rec) : Type 0 where

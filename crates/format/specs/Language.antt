@@ -8,7 +8,7 @@ use lib.ListN.{length}
 use lib.Dec.{T}
 use Rattle.format.specs.Fields.{filled, optional, free, writeFields, Fit}
 use Rattle.format.specs.Records.{layout, code, Fields}
-use Rattle.format.specs.Rules.{maxAmount, maxTotal, maxItems, maxAccount, maxSequence, CLIEOP03, EUR, isTestCode, isDate, isDesiredDate, isIdentification, isOfDay, isOrderingAccount, isAccount, isOwnPayer, isOwnBeneficiary, groupText, isNameCodeIn, typeOf, isTypeIn, needsName}
+use Rattle.format.specs.Rules.{maxAmount, maxTotal, maxItems, maxAccount, maxSequence, mostDescriptions, CLIEOP03, EUR, isTestCode, isDate, isDesiredDate, isIdentification, isOfDay, isOrderingAccount, isAccount, isOwnPayer, isOwnBeneficiary, groupText, isNameCodeIn, typeOf, isTypeIn, needsName}
 use Rattle.format.specs.declared.Kind.{Kind}
 use Rattle.format.specs.declared.Kind.the-variants.{FileHeader, BatchHeaderB, BatchHeaderC, FixedDescription, OrderingParty, Transaction, NamePayer, CityPayer, PaymentReference, Description, NameBeneficiary, CityBeneficiary, BatchTrailer, FileTrailer}
 use Rattle.format.specs.declared.Group.{Group}
@@ -165,16 +165,15 @@ NameOk true (some n) = Fit (filled 35) (n .text) × CityOk (n .city)
 NameOk false none = Unit {0}
 NameOk false (some n) = ⊥
 
-abbrev pub ones : Option (List ℕ) → ℕ
-ones none = 0
-ones (some t) = 1
+abbrev pub isSome : {A : Type 0} → Option A → Bool
+isSome none = false
+isSome (some a) = true
 
 pub record ItemOk (g : Group) (account : ℕ) (i : Item) : Type 0 where
   pub transaction-ok : TransactionOk g account (i .type) (i .amount) (i .payer) (i .beneficiary)
   pub reference-ok : ReferenceOk (i .reference)
   pub descriptions-ok : DescriptionsOk (i .descriptions)
-  -- 'at most four 0160s, or three if it has a 0150'
-  pub room : ones (i .reference) + length (i .descriptions) ≤ 4
+  pub room : length (i .descriptions) ≤ mostDescriptions (isSome (i .reference))
   pub name-ok : NameOk (needsName (typeOf (i .type))) (i .name)
 
 abbrev pub ItemsOk : Group → ℕ → List Item → Type 0

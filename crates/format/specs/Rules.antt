@@ -31,6 +31,11 @@ maxAccount = 9999999999
 abbrev pub maxSequence : ℕ
 maxSequence = 9999
 
+-- by whether there is a reference: 'at most four 0160s, or three if it has a 0150'
+abbrev pub mostDescriptions : Bool → ℕ
+mostDescriptions true = 3
+mostDescriptions false = 4
+
 -- ## Fixed texts
 
 abbrev pub CLIEOP03 : List ℕ

@@ -9,10 +9,11 @@ use borrow.Author.Tests.{eq-eqb, ne-eqb, le-leb, lt-leb}
 use lib.ListN.{length, drop}
 use Rattle.machine.specs.Lists.{pick, putIn}
 use Rattle.format.specs.Cutting.{rows}
+use Rattle.format.specs.Rules.{mostDescriptions}
 use Rattle.field.proofs.Putting.{put-front}
 use Rattle.reading.specs.Check.{checkOf}
 use Rattle.reading.specs.declared.Answer.{Answer}
-use Rattle.descriptions.specs.Texts.{merged, limitFor}
+use Rattle.descriptions.specs.Texts.{merged}
 use Rattle.descriptions.specs.declared.Descriptions.{Descriptions}
 use Rattle.items.specs.Search.{noFields, started, afterRows}
 use Rattle.items.specs.Answering.{told, isFound, textsFound, answeredBy, roomBy, itemOf, roomAfter}
@@ -24,7 +25,7 @@ use Rattle.items.specs.declared.ItemRead.{ItemRead}
 pub told-made : {x y : ItemFields} (number line column : ℕ) → x ≡ y → told number line column x ≡ told number line column y
 told-made number line column e = rw e
 
-pub texts-via : {n : ℕ} {d : Descriptions} (f : Found) → n ≡ limitFor (f .referred) → d ≡ merged (f .fixed) (f .own) n → d .text ≡ textsFound f
+pub texts-via : {n : ℕ} {d : Descriptions} (f : Found) → n ≡ mostDescriptions (f .referred) → d ≡ merged (f .fixed) (f .own) n → d .text ≡ textsFound f
 unfolding textsFound
 texts-via f e h = ap (λ (x : Descriptions). x .text) (h ∙ ap (merged (f .fixed) (f .own)) e)
 

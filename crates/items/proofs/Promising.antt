@@ -10,8 +10,8 @@ use lib.ListN.{length, take, drop, length-append}
 use lib.Seq.{take-at, take-append-le}
 use lib.Dec.{T, leb}
 use Rattle.machine.specs.Lists.{pick, spaces}
-use Rattle.format.specs.Rules.{typeOf, isTypeIn, needsName}
-use Rattle.format.specs.Language.{Name, Item, Batch, File, Reads, fileRecs, ReferenceOk, DescriptionsOk, NameOk, ItemOk, ItemsOk, Before, noneBefore, afterThat, BatchOk, BatchesOk}
+use Rattle.format.specs.Rules.{mostDescriptions, typeOf, isTypeIn, needsName}
+use Rattle.format.specs.Language.{Name, Item, Batch, File, Reads, fileRecs, ReferenceOk, DescriptionsOk, NameOk, isSome, ItemOk, ItemsOk, Before, noneBefore, afterThat, BatchOk, BatchesOk}
 use Rattle.format.specs.Cutting.{rows, AreLines}
 use Rattle.format.specs.Statements.{InLanguage}
 use Rattle.format.specs.declared.Group.{Group}
@@ -22,13 +22,14 @@ use Rattle.record.specs.Read.{typeOr, transactionFor}
 use Rattle.record.specs.declared.Transaction as items
 use Rattle.reading.specs.Check.{checkOf}
 use Rattle.reading.specs.declared.Answer.{Answer}
+use Rattle.reading.proofs.Judgements.{four-at-most}
 use Rattle.theorem.proofs.Meaning.{means}
-use Rattle.descriptions.specs.Texts.{limitFor, noTexts, inPlaces, merged, textFrom}
+use Rattle.descriptions.specs.Texts.{noTexts, inPlaces, merged, textFrom}
 use Rattle.descriptions.specs.declared.Descriptions.{Descriptions}
 use Rattle.descriptions.proofs.Lists.{Full, full-more, with-places, merged-places}
 use Rattle.items.specs.Search.{filledTo, noFields, nothingFound, withItem, started, afterRows}
 use Rattle.items.specs.Answering.{told, isFound, textsFound, answeredBy, roomBy}
-use Rattle.items.specs.Promises.{nth, ItemAt, itemWith, itemOfBatch, itemAt, referenceFor, nameFor, fieldsFor, isSome, textsFor, handedOut, roomWith, Promised}
+use Rattle.items.specs.Promises.{nth, ItemAt, itemWith, itemOfBatch, itemAt, referenceFor, nameFor, fieldsFor, textsFor, handedOut, roomWith, Promised}
 use Rattle.items.specs.declared.ItemFields.{ItemFields}
 use Rattle.items.specs.declared.Found.{Found}
 use Rattle.items.specs.declared.Search.{Search}
@@ -86,16 +87,12 @@ module _ (t : items.Transaction) (fx ts : List (List ℕ)) where
   fields-found (some u) false none h k = ap (λ y. fieldsWith t y (spaces 24)) (take-at u (spaces 16) 16 (h .0))
   fields-found (some u) false (some m) h k = absurd k
 
-  texts-found : (o : Option (List ℕ)) (m : Option Name) → textsFound (ending o m) ≡ merged (addTexts noTexts fx) (addTexts noTexts ts) (limitFor (isSome o)) .text
+  texts-found : (o : Option (List ℕ)) (m : Option Name) → textsFound (ending o m) ≡ merged (addTexts noTexts fx) (addTexts noTexts ts) (mostDescriptions (isSome o)) .text
   unfolding textsFound
   texts-found none none = refl
   texts-found none (some m) = refl
   texts-found (some u) none = refl
   texts-found (some u) (some m) = refl
-
-limit-in : (q : Bool) → limitFor q ≤ 4
-limit-in true = omega arith
-limit-in false = omega arith
 
 kind-found : (g : Group) (y : TypeRead) → T (isTypeIn g y) → isFound y ≡ true
 kind-found g (Of y) h = refl
@@ -109,16 +106,16 @@ Finds f (some x) = (isFound (f .fields .kind) ≡ true) × ((f .fields ≡ field
 item-finds : (g : Group) (account : ℕ) (fx : List (List ℕ)) (i : Item) → DescriptionsOk fx → length fx ≤ 4 → ItemOk g account i → Finds (onItem (onFixed nothingFound fx) i) (some (record { fixed = fx; item = i }))
 item-finds g account fx i h l k =
     let t : items.Transaction = transactionFor (i .type, (i .amount, (i .payer, (i .beneficiary, (tt, tt))))) in
-    let n : length (i .descriptions) ≤ 4 = omega (arith, k .room) in
+    let n : length (i .descriptions) ≤ 4 = omega (arith, k .room, four-at-most (isSome (i .reference))) in
     let y = k .transaction-ok .type-in in
     let e : onItem (onFixed nothingFound fx) i .fields ≡ fieldsFor i =
     fields-found t fx (i .descriptions) (i .reference) (needsName (typeOf (i .type))) (i .name) (k .reference-ok) (k .name-ok)
     ∙ ap (λ u. record { kind = u; amount = i .amount; payer = i .payer; beneficiary = i .beneficiary; reference = referenceFor (i .reference); name = nameFor (i .name) }) (type-read g (typeOf (i .type)) y) in
     let d : textsFound (onItem (onFixed nothingFound fx) i) ≡ textsFor (record { fixed = fx; item = i }) =
     texts-found t fx (i .descriptions) (i .reference) (i .name)
-    ∙ ap₂ (λ u v. merged u v (limitFor (isSome (i .reference))) .text) (all-places fx h l) (all-places (i .descriptions) (k .descriptions-ok) n)
+    ∙ ap₂ (λ u v. merged u v (mostDescriptions (isSome (i .reference))) .text) (all-places fx h l) (all-places (i .descriptions) (k .descriptions-ok) n)
     ∙ ap (λ (u : Descriptions). u .text)
-    (merged-places (spaces 128) (spaces 128) fx (i .descriptions) (limitFor (isSome (i .reference))) (all-full fx h) l (all-full (i .descriptions) (k .descriptions-ok)) n (limit-in (isSome (i .reference)))) in
+    (merged-places (spaces 128) (spaces 128) fx (i .descriptions) (mostDescriptions (isSome (i .reference))) (all-full fx h) l (all-full (i .descriptions) (k .descriptions-ok)) n (four-at-most (isSome (i .reference)))) in
     (ap (λ (u : ItemFields). isFound (u .kind)) e ∙ kind-found g (typeOf (i .type)) y, (e, d))
 
 -- ## By a reading

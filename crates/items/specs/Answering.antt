@@ -7,11 +7,12 @@ use lib.Dec.{leb, eqb}
 use Rattle.machine.specs.Lists.{pick}
 use Rattle.format.specs.Answers.{accepted, noRoom, noSuchItem}
 use Rattle.format.specs.Cutting.{rows}
+use Rattle.format.specs.Rules.{mostDescriptions}
 use Rattle.format.specs.declared.TypeRead.{TypeRead}
 use Rattle.format.specs.declared.TypeRead.the-variants.{Of, NoType}
 use Rattle.reading.specs.Check.{checkOf}
 use Rattle.reading.specs.declared.Answer.{Answer}
-use Rattle.descriptions.specs.Texts.{merged, limitFor}
+use Rattle.descriptions.specs.Texts.{merged}
 use Rattle.items.specs.Search.{noFields, started, afterRows}
 use Rattle.items.specs.declared.ItemFields.{ItemFields}
 use Rattle.items.specs.declared.Found.{Found}
@@ -27,7 +28,7 @@ isFound NoType = false
 
 -- 'the fixed ones, then the item's own, cut to the first four, or three with a reference', in places
 unfoldable pub textsFound : Found → List ℕ
-textsFound f = merged (f .fixed) (f .own) (limitFor (f .referred)) .text
+textsFound f = merged (f .fixed) (f .own) (mostDescriptions (f .referred)) .text
 
 -- after all lines of a file with this answer, with so much room: the file's own refusal, 13, 12, or the item
 unfoldable pub answeredBy : Search → Answer → ℕ → ItemRead

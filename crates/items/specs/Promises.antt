@@ -2,19 +2,18 @@
 use mathlib.Core.Path.{_≡_}
 use mathlib.Core.Logic.{_≢_}
 use mathlib.Core.List.{List, [], _∷_, _++_}
-use mathlib.Core.Bool.{Bool, true, false}
 use mathlib.Core.Option.{Option, none, some}
 use Prim.Native.Nat.{ℕ, zero, suc}
 use lib.ListN.{length, take, drop}
 use lib.Dec.{leb}
 use Rattle.machine.specs.Lists.{pick, spaces}
 use Rattle.format.specs.Answers.{accepted, noRoom, noSuchItem}
-use Rattle.format.specs.Rules.{typeOf}
-use Rattle.format.specs.Language.{Name, Item, Batch, File, Reads}
+use Rattle.format.specs.Rules.{mostDescriptions, typeOf}
+use Rattle.format.specs.Language.{Name, Item, Batch, File, isSome, Reads}
 use Rattle.format.specs.Cutting.{AreLines}
 use Rattle.format.specs.Statements.{InLanguage}
 use Rattle.reading.specs.Check.{checkOf}
-use Rattle.descriptions.specs.Texts.{mergeOf, limitFor, inPlaces}
+use Rattle.descriptions.specs.Texts.{mergeOf, inPlaces}
 use Rattle.items.specs.Search.{noFields}
 use Rattle.items.specs.Answering.{told}
 use Rattle.items.specs.declared.ItemFields.{ItemFields}
@@ -66,13 +65,9 @@ fieldsFor i =
       name = nameFor (i .name);
     }
 
-abbrev pub isSome : Option (List ℕ) → Bool
-isSome none = false
-isSome (some t) = true
-
 -- the merged descriptions in 128 bytes, 'unused places with spaces'
 abbrev pub textsFor : ItemAt → List ℕ
-textsFor x = inPlaces (spaces 128) (mergeOf (limitFor (isSome (x .item .reference))) (x .fixed) (x .item .descriptions)) .text
+textsFor x = inPlaces (spaces 128) (mergeOf (mostDescriptions (isSome (x .item .reference))) (x .fixed) (x .item .descriptions)) .text
 
 -- the item's fields, 12 where the room is too small, 13 where there is no such item
 abbrev pub handedOut : ℕ → Option ItemAt → ℕ → ItemRead

@@ -10,6 +10,7 @@ use lib.Dec.{T, eqb}
 use Rattle.machine.specs.Lists.{pick}
 use Rattle.machine.proofs.Base.{and-second}
 use Rattle.format.specs.Records.{amount}
+use Rattle.format.specs.Rules.{mostDescriptions}
 use Rattle.format.specs.declared.Kind.{Kind}
 use Rattle.format.specs.declared.Kind.the-variants.{FileHeader, BatchHeaderB, BatchHeaderC, FixedDescription, OrderingParty, Transaction, NamePayer, CityPayer, PaymentReference, Description, NameBeneficiary, CityBeneficiary, BatchTrailer, FileTrailer}
 use Rattle.format.specs.declared.Group.{Group}
@@ -25,7 +26,7 @@ use Rattle.record.proofs.Reading.{valued}
 use Rattle.record.proofs.Faulting.{transaction-read, transaction-refused, transaction-taken, transaction-bounded, maxima-kept, header-bounded, identified-bounded}
 use Rattle.reading.specs.State.{Kept, within}
 use Rattle.reading.specs.Bounds.{Bounded}
-use Rattle.reading.specs.Order.{isTransaction, isStage, mayFix, mayText, mayDescribe, roomFor, allowed}
+use Rattle.reading.specs.Order.{isTransaction, isStage, mayFix, mayText, mayDescribe, allowed}
 use Rattle.reading.specs.Step.{nextFor, paid, refused, taken, judgedBy, judgedAs, judgedKind, judgedCode, judgedLine, isWhole, isDone, judgedFirst}
 use Rattle.reading.specs.declared.Stage.the-variants.{Opened}
 use Rattle.reading.specs.declared.State.{State}
@@ -139,13 +140,15 @@ fix-room : (s : State) → allowed s FixedDescription ≡ true → s .batch .fix
 unfolding allowed mayFix
 fix-room s a = ltb-true (s .batch .fixed) 4 (and-second (isStage (s .stage) Opened) _ a)
 
+pub four-at-most : (reference : Bool) → mostDescriptions reference ≤ 4
+four-at-most true = omega arith
+four-at-most false = omega arith
+
 text-room : (s : State) → allowed s Description ≡ true → s .item .descriptions < 4
 unfolding allowed mayDescribe
-text-room s a = by (s .item .reference) (ltb-true (s .item .descriptions) (roomFor (s .item .reference)) (and-second (mayText (s .stage) (s .group) (s .item .name)) _ a))
-  where
-    by : (r : Bool) → s .item .descriptions < roomFor r → s .item .descriptions < 4
-    by true h = omega arith
-    by false h = omega arith
+text-room s a =
+    let r = s .item .reference in
+    omega (arith, ltb-true (s .item .descriptions) (mostDescriptions r) (and-second (mayText (s .stage) (s .group) (s .item .name)) _ a), four-at-most r)
 
 eqb-zero : (n : ℕ) → eqb n 0 ≡ false → n ≡ 0 → ⊥
 eqb-zero n h e = subst T (sym (eq-eqb n 0 e) ∙ h) tt

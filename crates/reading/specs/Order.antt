@@ -2,7 +2,7 @@
 use Prim.Native.Nat.{ℕ}
 use mathlib.Core.Bool.{Bool, true, false, not, _&&_, _||_}
 use lib.Dec.{ltb, eqb}
-use Rattle.format.specs.Rules.{sameGroup}
+use Rattle.format.specs.Rules.{mostDescriptions, sameGroup}
 use Rattle.format.specs.declared.Kind.{Kind}
 use Rattle.format.specs.declared.Kind.the-variants.{FileHeader, BatchHeaderB, BatchHeaderC, FixedDescription, OrderingParty, Transaction, NamePayer, CityPayer, PaymentReference, Description, NameBeneficiary, CityBeneficiary, BatchTrailer, FileTrailer}
 use Rattle.format.specs.declared.Group.{Group}
@@ -66,13 +66,8 @@ mayText p g n = isStage p Item && textsBy g n
 unfoldable pub mayRefer : Stage → Group → Name → Bool → ℕ → Bool
 mayRefer p g n reference descriptions = mayText p g n && (not reference && eqb descriptions 0)
 
--- 'at most four 0160s, or three if it has a 0150'
-abbrev pub roomFor : Bool → ℕ
-roomFor true = 3
-roomFor false = 4
-
 unfoldable pub mayDescribe : Stage → Group → Name → Bool → ℕ → Bool
-mayDescribe p g n reference descriptions = mayText p g n && ltb descriptions (roomFor reference)
+mayDescribe p g n reference descriptions = mayText p g n && ltb descriptions (mostDescriptions reference)
 
 abbrev pub allowedBy : State → Kind → Bool
 allowedBy s FileHeader = isStage (s .stage) Start

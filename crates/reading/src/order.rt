@@ -1,6 +1,7 @@
 // The order of records: which kind may stand in a state.
 ghost use mathlib.Core.Path.{_≡_};
-ghost use Rattle.reading.specs.Order.{stageNo, isStage, nameNo, isName, mayOpen, mayFix, mayEnd, mayPay, mayName, textsBy, mayText, mayRefer, roomFor, mayDescribe, allowed};
+ghost use Rattle.format.specs.Rules.{mostDescriptions};
+ghost use Rattle.reading.specs.Order.{stageNo, isStage, nameNo, isName, mayOpen, mayFix, mayEnd, mayPay, mayName, textsBy, mayText, mayRefer, mayDescribe, allowed};
 use crate::Name;
 use crate::Stage;
 use crate::State;
@@ -97,7 +98,7 @@ fn may_refer(p: Stage, g: Group, n: Name, reference: bool, descriptions: u64) ->
 }
 
 fn room_for(reference: bool) -> u64
-    ensures { λ r. ⌜ r ≡ roomFor reference ⌝ }
+    ensures { λ r. ⌜ r ≡ mostDescriptions reference ⌝ }
 {
     if reference { 3 } else { 4 }
 }

@@ -11,7 +11,7 @@ use lib.Dec.{eqb, leb, ltb}
 use Rattle.machine.specs.Lists.{pick, same}
 use Rattle.machine.proofs.Base.{and-second, true≢false}
 use Rattle.format.specs.Records.{Fields, code}
-use Rattle.format.specs.Rules.{sameGroup, isUnchecked}
+use Rattle.format.specs.Rules.{mostDescriptions, sameGroup, isUnchecked}
 use Rattle.format.specs.declared.Kind.{Kind}
 use Rattle.format.specs.declared.Kind.the-variants.{FileHeader, BatchHeaderB, BatchHeaderC, FixedDescription, OrderingParty, Transaction, NamePayer, CityPayer, PaymentReference, Description, NameBeneficiary, CityBeneficiary, BatchTrailer, FileTrailer}
 use Rattle.format.specs.declared.Group.{Group}
@@ -22,7 +22,7 @@ use Rattle.record.specs.Faults.{fieldsOf, faultOf}
 use Rattle.record.specs.Read.{transactionFor}
 use Rattle.record.proofs.Coding.{code-is}
 use Rattle.reading.specs.State.{isKept, within}
-use Rattle.reading.specs.Order.{isStage, isName, mayEnd, mayPay, mayName, textsBy, mayText, mayRefer, roomFor, mayDescribe, allowed}
+use Rattle.reading.specs.Order.{isStage, isName, mayEnd, mayPay, mayName, textsBy, mayText, mayRefer, mayDescribe, allowed}
 use Rattle.reading.specs.Step.{nameIf, afterText, nextFor, taken, judgedAs, judgedKind, judgedLine, isWhole, isDone, judgedFirst}
 use Rattle.reading.specs.declared.Stage.the-variants.{Item}
 use Rattle.reading.specs.declared.Name.{Name}
@@ -102,7 +102,7 @@ allowed-past s l Transaction c = refl
 allowed-past s l NamePayer c = refl
 allowed-past s l CityPayer c = absurd (true≢false c)
 allowed-past s l PaymentReference c = ap (λ q. (isStage (s .stage) Item && q) && (not (s .item .reference) && eqb (s .item .descriptions) 0)) (texts-like (s .group))
-allowed-past s l Description c = ap (λ q. (isStage (s .stage) Item && q) && ltb (s .item .descriptions) (roomFor (s .item .reference))) (texts-like (s .group))
+allowed-past s l Description c = ap (λ q. (isStage (s .stage) Item && q) && ltb (s .item .descriptions) (mostDescriptions (s .item .reference))) (texts-like (s .group))
 allowed-past s l NameBeneficiary c = refl
 allowed-past s l CityBeneficiary c = absurd (true≢false c)
 allowed-past s l BatchTrailer c = refl

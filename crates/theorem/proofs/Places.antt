@@ -10,6 +10,8 @@ use lib.Dec.{T, ltb, eqb, eqb·suc-zero}
 use Rattle.machine.specs.Lists.{same}
 use Rattle.machine.proofs.Base.{and-l, and-r}
 use Rattle.format.specs.Records.{code}
+use Rattle.format.specs.Rules.{mostDescriptions}
+use Rattle.format.specs.Language.{isSome}
 use Rattle.format.specs.declared.Kind.{Kind}
 use Rattle.format.specs.declared.Kind.the-variants.{FileHeader, BatchHeaderB, BatchHeaderC, FixedDescription, OrderingParty, Transaction, NamePayer, CityPayer, PaymentReference, Description, NameBeneficiary, CityBeneficiary, BatchTrailer, FileTrailer}
 use Rattle.format.specs.declared.Group.{Group}
@@ -24,7 +26,7 @@ use Rattle.reading.specs.declared.Stage.the-variants.{Start, Headed, Opened, Or
 use Rattle.reading.specs.declared.Name.{Name}
 use Rattle.reading.specs.declared.Name.the-variants.{Unwanted, Due, Read, Past}
 use Rattle.reading.specs.declared.State.{State}
-use Rattle.reading.specs.Order.{isStage, mayOpen, mayFix, mayEnd, mayPay, mayName, textsBy, mayText, mayRefer, mayDescribe, roomFor, allowed}
+use Rattle.reading.specs.Order.{isStage, mayOpen, mayFix, mayEnd, mayPay, mayName, textsBy, mayText, mayRefer, mayDescribe, allowed}
 
 -- ## The place of a state
 
@@ -85,7 +87,7 @@ refers-in true n = refl
 refers-in false zero = refl
 refers-in false (suc n) = eqb·suc-zero n
 
-describes-in : (r : Bool) (n : ℕ) → ltb n (roomFor r) ≡ describes (roomOf r n)
+describes-in : (r : Bool) (n : ℕ) → ltb n (mostDescriptions r) ≡ describes (roomOf r n)
 describes-in true n = some-left 3 n (ltb n 3) refl
 describes-in false zero = refl
 describes-in false (suc n) = let e : 4 - suc n ≡ 3 - n = omega arith in some-left 4 (suc n) (ltb (suc n) 4) refl ∙ ap someLeft e
@@ -128,10 +130,6 @@ allowed-follows s NameBeneficiary = refl
 allowed-follows s CityBeneficiary = refl
 allowed-follows s BatchTrailer = refl
 allowed-follows s FileTrailer = refl
-
-abbrev isSome : {A : Type 0} → Option A → Bool
-isSome none = false
-isSome (some a) = true
 
 hasPlace : Phase → Kind → Bool
 hasPlace p k = isSome (find (code k) (choices p))

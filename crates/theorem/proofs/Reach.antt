@@ -9,7 +9,7 @@ use lib.Dec.{T, eqb, ltb, ltb→lt, eqb→eq}
 use Rattle.machine.specs.Lists.{inRange}
 use Rattle.machine.proofs.Base.{and-l, and-r, of-eq}
 use Rattle.format.specs.Records.{Fields, sequence, unidentified}
-use Rattle.format.specs.Rules.{maxSequence, sameGroup, isUnchecked}
+use Rattle.format.specs.Rules.{maxSequence, mostDescriptions, sameGroup, isUnchecked}
 use Rattle.format.specs.Language.{Follows}
 use Rattle.format.specs.Tests.{isNext}
 use Rattle.format.specs.declared.Kind.{Kind}
@@ -22,7 +22,7 @@ use Rattle.record.specs.Read.{transactionFor}
 use Rattle.record.specs.declared.Batch.{Batch}
 use Rattle.record.specs.declared.Transaction as items
 use Rattle.reading.specs.State.{startState, within, Kept}
-use Rattle.reading.specs.Order.{stageNo, isStage, isName, mayOpen, mayFix, mayEnd, mayPay, mayName, textsBy, mayText, mayRefer, mayDescribe, roomFor, allowed}
+use Rattle.reading.specs.Order.{stageNo, isStage, isName, mayOpen, mayFix, mayEnd, mayPay, mayName, textsBy, mayText, mayRefer, mayDescribe, allowed}
 use Rattle.reading.specs.Step.{opened, withFixed, paid, named, texted, nextFor, nameIf, afterText, judgedFirst}
 use Rattle.reading.specs.declared.Stage.{Stage}
 use Rattle.reading.specs.declared.Stage.the-variants.{Start, Headed, Opened, Ordered, Item, Closed, Done}
@@ -137,7 +137,7 @@ referred : (r : Bool) (d : ℕ) → T (not r && eqb d 0) → referenceLines r + 
 referred true d t = absurd t
 referred false d t = omega (arith, eqb→eq d 0 t)
 
-described : (r : Bool) (d : ℕ) → T (ltb d (roomFor r)) → referenceLines r + (d + 1) ≤ 4
+described : (r : Bool) (d : ℕ) → T (ltb d (mostDescriptions r)) → referenceLines r + (d + 1) ≤ 4
 described true d t = omega (arith, ltb→lt d 3 t)
 described false d t = omega (arith, ltb→lt d 4 t)
 
@@ -210,8 +210,8 @@ module _ (s : State) (kept : Kept s) (i : LinesAt (s .stage) s) where
       texted-lines (not (s .item .reference) && eqb (s .item .descriptions) 0) true (s .item .descriptions) a (omega arith) (omega arith)
   lines-next Description line a f =
       let r = s .item .reference in
-      let e = described r (s .item .descriptions) (and-r (mayText (s .stage) (s .group) (s .item .name)) (ltb (s .item .descriptions) (roomFor r)) a) in
-      texted-lines (ltb (s .item .descriptions) (roomFor r)) r (s .item .descriptions + 1) a (omega arith) e
+      let e = described r (s .item .descriptions) (and-r (mayText (s .stage) (s .group) (s .item .name)) (ltb (s .item .descriptions) (mostDescriptions r)) a) in
+      texted-lines (ltb (s .item .descriptions) (mostDescriptions r)) r (s .item .descriptions + 1) a (omega arith) e
   lines-next NameBeneficiary line a f = due-lines Payments a
   lines-next CityBeneficiary line a f = read-lines Payments a
   lines-next BatchTrailer line a f =

@@ -6,8 +6,8 @@ use mathlib.Core.Option.{none}
 use Prim.Native.Nat.{ℕ, _*_}
 use lib.ListN.{take, drop}
 use Rattle.machine.specs.Lists.{spaces}
-use Rattle.descriptions.specs.Texts.{mergeOf, limitFor}
-use Rattle.format.specs.Rules.{maxAmount, weighted, isEleven, isDate, typeText}
+use Rattle.descriptions.specs.Texts.{mergeOf}
+use Rattle.format.specs.Rules.{maxAmount, mostDescriptions, weighted, isEleven, isDate, typeText}
 use Rattle.format.specs.Language.{Rec, tenDigits, batchHeaderRec, batchTrailerRec, lineOf}
 use Rattle.format.specs.Answers.{wrongValue, wrongAccount, differs, aboveMaximum, endsEarly}
 use Rattle.format.specs.declared.Kind.the-variants.{Transaction}
@@ -66,7 +66,7 @@ Holds (eleven account weight passes) = (weighted 10 1 account ≡ weight) × (is
 Holds (date day exists) = isDate day ≡ exists
 Holds (line g b r fault) = faultOf true g b (r .0) (lineText r) ≡ fault
 Holds (accountSum accounts text) = (take 10 (drop 23 (lineText (trailer accounts))) ≡ text) × (faultOf true Payments (batch 1 1 1 (tenDigits accounts)) (trailer accounts .0) (lineText (trailer accounts)) ≡ noFault)
-Holds (merging reference fixed own handed) = mergeOf (limitFor reference) fixed own ≡ handed
+Holds (merging reference fixed own handed) = mergeOf (mostDescriptions reference) fixed own ≡ handed
 Holds (file bytes told) = checkOf bytes ≡ told
 
 abbrev pub Right : List Case → Type 0
