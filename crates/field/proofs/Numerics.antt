@@ -19,8 +19,8 @@ use Rattle.machine.proofs.Base.{and-first, and-second}
 use Rattle.format.specs.Tests.{Test, test}
 use Rattle.field.specs.declared.numbers.Digits.{Digits}
 use Rattle.field.specs.declared.numbers.Numeric.{Numeric}
-use Rattle.field.specs.Rows.{firstNo, fieldNo}
-use Rattle.field.specs.Leaf.{noDigits, digitsOf, wrongNo, rightOf, numericBy, numericNo, numericOf, rangedBy, rangeTests}
+use Rattle.field.specs.Rows.{firstAnswer, fieldAnswer}
+use Rattle.field.specs.Leaf.{noDigits, digitsOf, wrongAs, rightOf, numericBy, numericAnswer, numericOf, rangedBy, rangeTests}
 use Rattle.field.proofs.Picks.{picks, told}
 
 -- ## The value of digits
@@ -108,43 +108,43 @@ Numbered (test b n ∷ ts) = T (not (eqb n 0)) × Numbered ts
 
 abbrev pub firstOf : List Test → ℕ → Numeric
 firstOf [] v = rightOf v
-firstOf (test b n ∷ ts) v = pick b (firstOf ts v) (wrongNo n)
+firstOf (test b n ∷ ts) v = pick b (firstOf ts v) (wrongAs n)
 
-first-of : (ts : List Test) (v : ℕ) → Numbered ts → firstOf ts v ≡ numericBy (firstNo ts) v
+first-of : (ts : List Test) (v : ℕ) → Numbered ts → firstOf ts v ≡ numericBy (firstAnswer ts) v
 unfolding pick
 first-of [] v h = refl
 first-of (test true n ∷ ts) v h = first-of ts v (h .1)
 first-of (test false n ∷ ts) v h = by (eqb n 0) (h .0)
   where
-    by : (q : Bool) → T (not q) → _≡_ {A = Numeric} (wrongNo n) (record { number = n; value = pick q v 0 })
+    by : (q : Bool) → T (not q) → _≡_ {A = Numeric} (wrongAs n) (record { number = n; value = pick q v 0 })
     by true t = absurd t
     by false t = refl
 
 -- a numeric field by what the digits are
-no-by : (tests : ℕ → List Test) (l : List ℕ) → pick (digitsOf l .ok) (firstNo (tests (digitsOf l .value))) 4 ≡ numericNo tests l
-unfolding digitsOf numericNo fieldNo pick
+no-by : (tests : ℕ → List Test) (l : List ℕ) → pick (digitsOf l .ok) (firstAnswer (tests (digitsOf l .value))) 4 ≡ numericAnswer tests l
+unfolding digitsOf numericAnswer fieldAnswer pick
 no-by tests l = by (leb (length l) 18) (all isDigit l)
   where
-    by : (q u : Bool) → pick (pick (q && u) (record { ok = true; value = valueOf l }) noDigits .ok) (firstNo (tests (pick (q && u) (record { ok = true; value = valueOf l }) noDigits .value))) 4 ≡ pick q (pick u (firstNo (tests (valueOf l))) 4) 4
+    by : (q u : Bool) → pick (pick (q && u) (record { ok = true; value = valueOf l }) noDigits .ok) (firstAnswer (tests (pick (q && u) (record { ok = true; value = valueOf l }) noDigits .value))) 4 ≡ pick q (pick u (firstAnswer (tests (valueOf l))) 4) 4
     by true true = refl
     by true false = refl
     by false u = refl
 
-of-by : (tests : ℕ → List Test) (l : List ℕ) → ((v : ℕ) → Numbered (tests v)) → pick (digitsOf l .ok) (firstOf (tests (digitsOf l .value)) (digitsOf l .value)) (wrongNo 4) ≡ numericOf tests l
-unfolding digitsOf numericOf numericNo fieldNo pick
+of-by : (tests : ℕ → List Test) (l : List ℕ) → ((v : ℕ) → Numbered (tests v)) → pick (digitsOf l .ok) (firstOf (tests (digitsOf l .value)) (digitsOf l .value)) (wrongAs 4) ≡ numericOf tests l
+unfolding digitsOf numericOf numericAnswer fieldAnswer pick
 of-by tests l h = by (leb (length l) 18) (all isDigit l)
   where
-    by : (q u : Bool) → pick (pick (q && u) (record { ok = true; value = valueOf l }) noDigits .ok) (firstOf (tests (pick (q && u) (record { ok = true; value = valueOf l }) noDigits .value)) (pick (q && u) (record { ok = true; value = valueOf l }) noDigits .value)) (wrongNo 4)
-        ≡ numericBy (pick q (pick u (firstNo (tests (valueOf l))) 4) 4) (valueOf l)
+    by : (q u : Bool) → pick (pick (q && u) (record { ok = true; value = valueOf l }) noDigits .ok) (firstOf (tests (pick (q && u) (record { ok = true; value = valueOf l }) noDigits .value)) (pick (q && u) (record { ok = true; value = valueOf l }) noDigits .value)) (wrongAs 4)
+        ≡ numericBy (pick q (pick u (firstAnswer (tests (valueOf l))) 4) 4) (valueOf l)
     by true true = first-of (tests (valueOf l)) (valueOf l) (h (valueOf l))
     by true false = refl
     by false u = refl
 
 module _ {d : Digits} (tests : ℕ → List Test) (l : List ℕ) where
-  pub no-via : {x : ℕ} → d ≡ digitsOf l → x ≡ pick (d .ok) (firstNo (tests (d .value))) 4 → x ≡ numericNo tests l
+  pub no-via : {x : ℕ} → d ≡ digitsOf l → x ≡ pick (d .ok) (firstAnswer (tests (d .value))) 4 → x ≡ numericAnswer tests l
   no-via e h = h ∙ rw e (no-by tests l)
 
-  pub of-via : {x : Numeric} → ((v : ℕ) → Numbered (tests v)) → d ≡ digitsOf l → x ≡ pick (d .ok) (firstOf (tests (d .value)) (d .value)) (wrongNo 4) → x ≡ numericOf tests l
+  pub of-via : {x : Numeric} → ((v : ℕ) → Numbered (tests v)) → d ≡ digitsOf l → x ≡ pick (d .ok) (firstOf (tests (d .value)) (d .value)) (wrongAs 4) → x ≡ numericOf tests l
   of-via n e h = h ∙ rw e (of-by tests l n)
 
 pub ruleset vias = (no-via, of-via, picks)
@@ -153,7 +153,7 @@ pub ruleset vias = (no-via, of-via, picks)
 range-numbered : (low high v : ℕ) → Numbered (rangeTests low high v)
 range-numbered low high v = (tt, tt)
 
-by-range : (low high v : ℕ) (q u : Bool) → leb low v ≡ q → leb v high ≡ u → pick (ltb v low) (wrongNo 5) (pick (ltb high v) (wrongNo 5) (rightOf v)) ≡ pick (q && u) (rightOf v) (wrongNo 5)
+by-range : (low high v : ℕ) (q u : Bool) → leb low v ≡ q → leb v high ≡ u → pick (ltb v low) (wrongAs 5) (pick (ltb high v) (wrongAs 5) (rightOf v)) ≡ pick (q && u) (rightOf v) (wrongAs 5)
 unfolding pick
 by-range low high v true true h k = rw (le-ltb v low (leb-true low v h), le-ltb high v (leb-true v high k))
 by-range low high v true false h k = rw (le-ltb v low (leb-true low v h), lt-ltb high v (leb-false v high k))
@@ -161,14 +161,14 @@ by-range low high v false u h k = rw (lt-ltb v low (leb-false low v h))
 
 pub range-of : {d : Digits} {x : Numeric} (low high : ℕ) (l : List ℕ) → d ≡ digitsOf l → x ≡ rangedBy low high d → x ≡ numericOf (rangeTests low high) l
 unfolding rangedBy
-range-of {d} low high l e h = of-via (rangeTests low high) l (range-numbered low high) e (h ∙ ap (λ n. pick (d .ok) n (wrongNo 4)) (by-range low high (d .value) (leb low (d .value)) (leb (d .value) high) refl refl))
+range-of {d} low high l e h = of-via (rangeTests low high) l (range-numbered low high) e (h ∙ ap (λ n. pick (d .ok) n (wrongAs 4)) (by-range low high (d .value) (leb low (d .value)) (leb (d .value) high) refl refl))
 
 -- where nothing is wrong there are digits
-pub is-digits : (tests : ℕ → List Test) (l : List ℕ) → numericNo tests l ≡ 0 → all isDigit l ≡ true
-unfolding numericNo fieldNo pick
+pub is-digits : (tests : ℕ → List Test) (l : List ℕ) → numericAnswer tests l ≡ 0 → all isDigit l ≡ true
+unfolding numericAnswer fieldAnswer pick
 is-digits tests l z = by (leb (length l) 18) (all isDigit l) z
   where
-    by : (q u : Bool) → pick q (pick u (firstNo (tests (valueOf l))) 4) 4 ≡ 0 → u ≡ true
+    by : (q u : Bool) → pick q (pick u (firstAnswer (tests (valueOf l))) 4) 4 ≡ 0 → u ≡ true
     by true true z = refl
     by true false z = absurd (omega arith)
     by false u z = absurd (omega arith)
@@ -186,14 +186,14 @@ after [] ts = ts
 after (b ∷ bs) [] = []
 after (b ∷ bs) (t ∷ ts) = after bs ts
 
-by-more : (bs ts : List Test) → Extends bs ts → firstNo ts ≡ pick (eqb (firstNo bs) 0) (firstNo (after bs ts)) (firstNo bs)
+by-more : (bs ts : List Test) → Extends bs ts → firstAnswer ts ≡ pick (eqb (firstAnswer bs) 0) (firstAnswer (after bs ts)) (firstAnswer bs)
 unfolding pick
 by-more [] ts h = refl
 by-more (b ∷ bs) [] h = absurd h
 by-more (test true n ∷ bs) (t ∷ ts) h = rw (← h .0) (by-more bs ts (h .1 .1))
 by-more (test false n ∷ bs) (t ∷ ts) h = rw (← h .0) (by (eqb n 0) (h .1 .0 .0))
   where
-    by : (q : Bool) → T (not q) → n ≡ pick q (firstNo (after bs ts)) n
+    by : (q : Bool) → T (not q) → n ≡ pick q (firstAnswer (after bs ts)) n
     by true t = absurd t
     by false t = refl
 
@@ -203,44 +203,44 @@ onward n v g a = pick (eqb n 0) (g (pick (eqb n 0) v 0)) a
 
 module _ (base tests : ℕ → List Test) (l : List ℕ) (h : (v : ℕ) → Extends (base v) (tests v)) where
   abbrev others : ℕ → ℕ
-  others v = firstNo (after (base v) (tests v))
+  others v = firstAnswer (after (base v) (tests v))
 
-  no-more : numericNo tests l ≡ onward (numericNo base l) (valueOf l) others (numericNo base l)
-  unfolding numericNo fieldNo pick
-  no-more = by (leb (length l) 18) (all isDigit l) (firstNo (base (valueOf l))) (by-more (base (valueOf l)) (tests (valueOf l)) (h (valueOf l)))
+  no-more : numericAnswer tests l ≡ onward (numericAnswer base l) (valueOf l) others (numericAnswer base l)
+  unfolding numericAnswer fieldAnswer pick
+  no-more = by (leb (length l) 18) (all isDigit l) (firstAnswer (base (valueOf l))) (by-more (base (valueOf l)) (tests (valueOf l)) (h (valueOf l)))
     where
       at : (q : Bool) (n v : ℕ) → pick q (others v) n ≡ pick q (others (pick q v 0)) n
       at true n v = refl
       at false n v = refl
 
-      by : (a b : Bool) (n : ℕ) → firstNo (tests (valueOf l)) ≡ pick (eqb n 0) (others (valueOf l)) n
-          → pick a (pick b (firstNo (tests (valueOf l))) 4) 4 ≡ onward (pick a (pick b n 4) 4) (valueOf l) others (pick a (pick b n 4) 4)
+      by : (a b : Bool) (n : ℕ) → firstAnswer (tests (valueOf l)) ≡ pick (eqb n 0) (others (valueOf l)) n
+          → pick a (pick b (firstAnswer (tests (valueOf l))) 4) 4 ≡ onward (pick a (pick b n 4) 4) (valueOf l) others (pick a (pick b n 4) 4)
       by true true n e = e ∙ at (eqb n 0) n (valueOf l)
       by true false n e = refl
       by false b n e = refl
 
-  of-more : numericOf tests l ≡ onward (numericNo base l) (valueOf l) (λ v. numericBy (others v) v) (numericOf base l)
+  of-more : numericOf tests l ≡ onward (numericAnswer base l) (valueOf l) (λ v. numericBy (others v) v) (numericOf base l)
   unfolding numericOf pick
-  of-more = rw no-more (by (eqb (numericNo base l) 0))
+  of-more = rw no-more (by (eqb (numericAnswer base l) 0))
     where
-      by : (q : Bool) → numericBy (pick q (others (pick q (valueOf l) 0)) (numericNo base l)) (valueOf l) ≡ pick q (numericBy (others (pick q (valueOf l) 0)) (pick q (valueOf l) 0)) (numericBy (numericNo base l) (valueOf l))
+      by : (q : Bool) → numericBy (pick q (others (pick q (valueOf l) 0)) (numericAnswer base l)) (valueOf l) ≡ pick q (numericBy (others (pick q (valueOf l) 0)) (pick q (valueOf l) 0)) (numericBy (numericAnswer base l) (valueOf l))
       by true = refl
       by false = refl
 
   module _ {f : Numeric} (e : f ≡ numericOf base l) where
-    number : f .number ≡ numericNo base l
+    number : f .number ≡ numericAnswer base l
     unfolding numericOf
     number = ap (λ (g : Numeric). g .number) e
 
-    value : f .value ≡ pick (eqb (numericNo base l) 0) (valueOf l) 0
+    value : f .value ≡ pick (eqb (numericAnswer base l) 0) (valueOf l) 0
     unfolding numericOf
     value = ap (λ (g : Numeric). g .value) e
 
-    pub no-stop : {x : ℕ} → (f .number ≡ 0 → ⊥) → x ≡ f .number → x ≡ numericNo tests l
+    pub no-stop : {x : ℕ} → (f .number ≡ 0 → ⊥) → x ≡ f .number → x ≡ numericAnswer tests l
     unfolding pick
     no-stop z k = k ∙ sym (rw (no-more, ← number, ne-eqb _ 0 z))
 
-    pub no-on : {x : ℕ} → f .number ≡ 0 → x ≡ firstNo (after (base (f .value)) (tests (f .value))) → x ≡ numericNo tests l
+    pub no-on : {x : ℕ} → f .number ≡ 0 → x ≡ firstAnswer (after (base (f .value)) (tests (f .value))) → x ≡ numericAnswer tests l
     unfolding pick
     no-on z k = k ∙ sym (rw (no-more, ← value, ← number, eq-eqb _ 0 z))
 

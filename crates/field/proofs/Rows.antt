@@ -14,8 +14,8 @@ use Rattle.format.specs.Rules.{maxAccount, isDate, isDesiredDate, isOrderingAcc
 use Rattle.format.specs.Answers.{wrongValue, wrongAccount, differs, wrongTrailer}
 use Rattle.format.specs.Tests.{Test, test}
 use Rattle.field.specs.declared.numbers.Numeric.{Numeric}
-use Rattle.field.specs.Rows.{Row, row, fieldNo, firstOr}
-use Rattle.field.specs.Leaf.{numericNo, numericOf, rangeTests, dateTests, desiredTests, totalTests, equalTests, orderingTests, isOwnIf, partyTests}
+use Rattle.field.specs.Rows.{Row, row, fieldAnswer, firstOr}
+use Rattle.field.specs.Leaf.{numericAnswer, numericOf, rangeTests, dateTests, desiredTests, totalTests, equalTests, orderingTests, isOwnIf, partyTests}
 
 -- ## A chain of tests
 
@@ -38,18 +38,18 @@ short : (w : ℕ) (m : List ℕ) → leb w 18 ≡ true → leb (length (take w m
 short w m h = le-leb (length (take w m)) 18 (rw length-take (omega (arith, leb-true w 18 h)))
 
 module _ (tests : ℕ → List Test) (w : ℕ) (m : List ℕ) where
-  pub no-row : {r : ℕ} → r ≡ numericNo tests (take w m) → leb w 18 ≡ true → r ≡ fieldNo (numeric w) (tests (valueOf (take w m))) (take w m)
-  unfolding numericNo fieldNo pick
+  pub no-row : {r : ℕ} → r ≡ numericAnswer tests (take w m) → leb w 18 ≡ true → r ≡ fieldAnswer (numeric w) (tests (valueOf (take w m))) (take w m)
+  unfolding numericAnswer fieldAnswer pick
   no-row e h = e ∙ rw (short w m h)
 
-  pub of-row : {r : Numeric} → r ≡ numericOf tests (take w m) → leb w 18 ≡ true → r .number ≡ fieldNo (numeric w) (tests (valueOf (take w m))) (take w m)
+  pub of-row : {r : Numeric} → r ≡ numericOf tests (take w m) → leb w 18 ≡ true → r .number ≡ fieldAnswer (numeric w) (tests (valueOf (take w m))) (take w m)
   unfolding numericOf
   of-row e h = no-row (ap (λ (n : Numeric). n .number) e) h
 
 -- the value where nothing is wrong
 pub of-value : {r : Numeric} (tests : ℕ → List Test) (l : List ℕ) → r ≡ numericOf tests l → r .number ≡ 0 → r .value ≡ valueOf l
 unfolding numericOf pick
-of-value tests l e z = let q : numericNo tests l ≡ 0 = sym (ap (λ (n : Numeric). n .number) e) ∙ z in ap (λ (n : Numeric). n .value) e ∙ rw q
+of-value tests l e z = let q : numericAnswer tests l ≡ 0 = sym (ap (λ (n : Numeric). n .number) e) ∙ z in ap (λ (n : Numeric). n .value) e ∙ rw q
 
 -- each leaf's row, with its tests written out: `search` does not find them behind a function
 module _ (w : ℕ) (m : List ℕ) where
@@ -57,7 +57,7 @@ module _ (w : ℕ) (m : List ℕ) where
   val = valueOf (take w m)
 
   abbrev rowOf : List Test → ℕ
-  rowOf ts = fieldNo (numeric w) ts (take w m)
+  rowOf ts = fieldAnswer (numeric w) ts (take w m)
 
   pub ranged-row : {r : Numeric} (low high : ℕ) → r ≡ numericOf (rangeTests low high) (take w m) → leb w 18 ≡ true → r .number ≡ rowOf (test (inRange low high val) wrongValue ∷ [])
   ranged-row low high e h = of-row (rangeTests low high) w m e h
@@ -65,13 +65,13 @@ module _ (w : ℕ) (m : List ℕ) where
   pub date-row : {r : Numeric} → r ≡ numericOf dateTests (take w m) → leb w 18 ≡ true → r .number ≡ rowOf (test (isDate val) wrongValue ∷ [])
   date-row e h = of-row dateTests w m e h
 
-  pub desired-row : {r : ℕ} → r ≡ numericNo desiredTests (take w m) → leb w 18 ≡ true → r ≡ rowOf (test (isDesiredDate val) wrongValue ∷ [])
+  pub desired-row : {r : ℕ} → r ≡ numericAnswer desiredTests (take w m) → leb w 18 ≡ true → r ≡ rowOf (test (isDesiredDate val) wrongValue ∷ [])
   desired-row e h = no-row desiredTests w m e h
 
-  pub total-row : {r : ℕ} (low high right : ℕ) → r ≡ numericNo (totalTests low high right) (take w m) → leb w 18 ≡ true → r ≡ rowOf (test (inRange low high val) wrongValue ∷ test (eqb val right) wrongTrailer ∷ [])
+  pub total-row : {r : ℕ} (low high right : ℕ) → r ≡ numericAnswer (totalTests low high right) (take w m) → leb w 18 ≡ true → r ≡ rowOf (test (inRange low high val) wrongValue ∷ test (eqb val right) wrongTrailer ∷ [])
   total-row low high right e h = no-row (totalTests low high right) w m e h
 
-  pub equal-row : {r : ℕ} (right : ℕ) → r ≡ numericNo (equalTests right) (take w m) → leb w 18 ≡ true → r ≡ rowOf (test (eqb val right) wrongTrailer ∷ [])
+  pub equal-row : {r : ℕ} (right : ℕ) → r ≡ numericAnswer (equalTests right) (take w m) → leb w 18 ≡ true → r ≡ rowOf (test (eqb val right) wrongTrailer ∷ [])
   equal-row right e h = no-row (equalTests right) w m e h
 
   pub ordering-row : {r : Numeric} → r ≡ numericOf orderingTests (take w m) → leb w 18 ≡ true → r .number ≡ rowOf (test (inRange 1 maxAccount val) wrongValue ∷ test (isOrderingAccount val) wrongAccount ∷ [])

@@ -11,7 +11,7 @@ use Rattle.format.specs.Fields.{numeric}
 use Rattle.format.specs.Rules.{maxAccount, isDate, isDesiredDate, isOrderingAccount, isAccount}
 use Rattle.format.specs.Answers.{wrongForm, wrongValue, wrongAccount, differs, wrongTrailer}
 use Rattle.format.specs.Tests.{Test, test}
-use Rattle.field.specs.Rows.{fieldNo}
+use Rattle.field.specs.Rows.{fieldAnswer}
 use Rattle.field.specs.declared.numbers.Digits.{Digits}
 use Rattle.field.specs.declared.numbers.Numeric.{Numeric}
 
@@ -21,8 +21,8 @@ noDigits = record { ok = false; value = 0 }
 unfoldable pub digitsOf : List ℕ → Digits
 digitsOf l = pick (leb (length l) 18 && all isDigit l) (record { ok = true; value = valueOf l }) noDigits
 
-abbrev pub wrongNo : ℕ → Numeric
-wrongNo n = record { number = n; value = 0 }
+abbrev pub wrongAs : ℕ → Numeric
+wrongAs n = record { number = n; value = 0 }
 
 abbrev pub rightOf : ℕ → Numeric
 rightOf v = record { number = 0; value = v }
@@ -35,17 +35,17 @@ numericBy n v = record { number = n; value = pick (eqb n 0) v 0 }
 unfoldable pub rangedBy : ℕ → ℕ → Digits → Numeric
 rangedBy low high d =
     pick (d .ok)
-    (pick (ltb (d .value) low) (wrongNo wrongValue)
-    (pick (ltb high (d .value)) (wrongNo wrongValue)
+    (pick (ltb (d .value) low) (wrongAs wrongValue)
+    (pick (ltb high (d .value)) (wrongAs wrongValue)
     (rightOf (d .value))))
-    (wrongNo wrongForm)
+    (wrongAs wrongForm)
 
 -- the field's form, then tests of its value
-unfoldable pub numericNo : (ℕ → List Test) → List ℕ → ℕ
-numericNo tests l = pick (leb (length l) 18) (fieldNo (numeric (length l)) (tests (valueOf l)) l) wrongForm
+unfoldable pub numericAnswer : (ℕ → List Test) → List ℕ → ℕ
+numericAnswer tests l = pick (leb (length l) 18) (fieldAnswer (numeric (length l)) (tests (valueOf l)) l) wrongForm
 
 unfoldable pub numericOf : (ℕ → List Test) → List ℕ → Numeric
-numericOf tests l = numericBy (numericNo tests l) (valueOf l)
+numericOf tests l = numericBy (numericAnswer tests l) (valueOf l)
 
 -- ## Accounts by their digits: what functions ask that are not public
 

@@ -17,17 +17,17 @@ abbrev pub cut : ℕ → ℕ → List ℕ → List ℕ
 cut c w xs = take w (drop (c - 1) xs)
 
 -- the number of the first test that fails
-abbrev pub firstNo : List Test → ℕ
-firstNo [] = 0
-firstNo (test b n ∷ ts) = pick b (firstNo ts) n
+abbrev pub firstAnswer : List Test → ℕ
+firstAnswer [] = 0
+firstAnswer (test b n ∷ ts) = pick b (firstAnswer ts) n
 
 -- a field: its form, then its tests
-unfoldable pub fieldNo : Field → List Test → List ℕ → ℕ
-fieldNo f ts l = pick (wellFormed f l) (firstNo ts) wrongForm
+unfoldable pub fieldAnswer : Field → List Test → List ℕ → ℕ
+fieldAnswer f ts l = pick (wellFormed f l) (firstAnswer ts) wrongForm
 
 abbrev pub rowsAt : ℕ → (fs : List Field) → Tests fs → List ℕ → List Row → List Row
 rowsAt c [] t xs k = k
-rowsAt c (f ∷ fs) t xs k = row c (fieldNo f (t .0) (cut c (width f) xs)) ∷ rowsAt (c + width f) fs (t .1) xs k
+rowsAt c (f ∷ fs) t xs k = row c (fieldAnswer f (t .0) (cut c (width f) xs)) ∷ rowsAt (c + width f) fs (t .1) xs k
 
 abbrev pub checkRows : List Check → List Row
 checkRows [] = []

@@ -2,7 +2,7 @@
 ghost use mathlib.Core.Path.{_≡_};
 ghost use lib.ListN.{take, drop};
 ghost use Rattle.format.specs.Rules.{daysIn, isDate};
-ghost use Rattle.field.specs.Leaf.{numericNo, numericOf, dateTests, desiredTests};
+ghost use Rattle.field.specs.Leaf.{numericAnswer, numericOf, dateTests, desiredTests};
 use crate::numbers::Numeric;
 use crate::numbers::digits_at;
 use crate::numbers::right;
@@ -43,8 +43,8 @@ pub fn date(line: &[u8], at: usize) -> Numeric
 }
 
 // A date that may be zeros.
-pub fn desired_no(line: &[u8], at: usize) -> u8
-    ensures { λ r. ⌜ r ≡ numericNo desiredTests (take 6 (drop at (now (line .entry)))) ⌝ }
+pub fn desired_answer(line: &[u8], at: usize) -> u8
+    ensures { λ r. ⌜ r ≡ numericAnswer desiredTests (take 6 (drop at (now (line .entry)))) ⌝ }
 {
     let d = digits_at(line, at, 6);
     if d.ok {

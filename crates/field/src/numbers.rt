@@ -5,7 +5,7 @@ ghost use Prim.Native.Nat.{_+_, _≤_, _<_};
 ghost use lib.ListN.{length, take, drop};
 ghost use Rattle.machine.specs.Lists.{all, isDigit};
 ghost use Rattle.machine.specs.Digits.{decimal, valueOf};
-ghost use Rattle.field.specs.Leaf.{digitsOf, wrongNo, rightOf, numericNo, numericOf, rangedBy, rangeTests, totalTests, equalTests};
+ghost use Rattle.field.specs.Leaf.{digitsOf, wrongAs, rightOf, numericAnswer, numericOf, rangedBy, rangeTests, totalTests, equalTests};
 use crate::bytes::is_digits;
 use crate::bytes::part;
 
@@ -93,7 +93,7 @@ pub fn digits_at(line: &[u8], at: usize, width: usize) -> Digits
 }
 
 pub(crate) fn wrong(number: u8) -> Numeric
-    ensures { λ r. ⌜ r ≡ wrongNo number ⌝ }
+    ensures { λ r. ⌜ r ≡ wrongAs number ⌝ }
 {
     Numeric { number, value: 0 }
 }
@@ -129,8 +129,8 @@ pub fn ranged(line: &[u8], at: usize, width: usize, low: u64, high: u64) -> Nume
 }
 
 // A trailer's number: from low to high, and the right one.
-pub fn total_no(line: &[u8], at: usize, width: usize, low: u64, high: u64, right: u64) -> u8
-    ensures { λ r. ⌜ r ≡ numericNo (totalTests low high right) (take width (drop at (now (line .entry)))) ⌝ }
+pub fn total_answer(line: &[u8], at: usize, width: usize, low: u64, high: u64, right: u64) -> u8
+    ensures { λ r. ⌜ r ≡ numericAnswer (totalTests low high right) (take width (drop at (now (line .entry)))) ⌝ }
 {
     let n = ranged(line, at, width, low, high);
     if n.number != 0 {
@@ -144,8 +144,8 @@ pub fn total_no(line: &[u8], at: usize, width: usize, low: u64, high: u64, right
 }
 
 // The same for a number that may be zero.
-pub fn equal_no(line: &[u8], at: usize, width: usize, right: u64) -> u8
-    ensures { λ r. ⌜ r ≡ numericNo (equalTests right) (take width (drop at (now (line .entry)))) ⌝ }
+pub fn equal_answer(line: &[u8], at: usize, width: usize, right: u64) -> u8
+    ensures { λ r. ⌜ r ≡ numericAnswer (equalTests right) (take width (drop at (now (line .entry)))) ⌝ }
 {
     let d = digits_at(line, at, width);
     if d.ok {

@@ -6,15 +6,15 @@ ghost use Rattle.machine.specs.Lists.{same};
 ghost use Rattle.format.specs.Fields.{filled, optional, free, filler};
 ghost use Rattle.format.specs.Answers.{wrongValue};
 ghost use Rattle.format.specs.Tests.{test};
-ghost use Rattle.field.specs.Rows.{fieldNo};
+ghost use Rattle.field.specs.Rows.{fieldAnswer};
 use crate::bytes::is_blank;
 use crate::bytes::is_left_justified;
 use crate::bytes::is_printable;
 use crate::bytes::is_same;
 use crate::bytes::part;
 
-pub fn filler_no(line: &[u8], at: usize, width: usize) -> u8
-    ensures { λ r. ⌜ r ≡ fieldNo (filler width) [] (take width (drop at (now (line .entry)))) ⌝ }
+pub fn filler_answer(line: &[u8], at: usize, width: usize) -> u8
+    ensures { λ r. ⌜ r ≡ fieldAnswer (filler width) [] (take width (drop at (now (line .entry)))) ⌝ }
 {
     if is_blank(part(line, at, width)) {
         0
@@ -24,8 +24,8 @@ pub fn filler_no(line: &[u8], at: usize, width: usize) -> u8
 }
 
 // A text that has to be there.
-pub fn filled_no(line: &[u8], at: usize, width: usize) -> u8
-    ensures { λ r. ⌜ r ≡ fieldNo (filled width) [] (take width (drop at (now (line .entry)))) ⌝ }
+pub fn filled_answer(line: &[u8], at: usize, width: usize) -> u8
+    ensures { λ r. ⌜ r ≡ fieldAnswer (filled width) [] (take width (drop at (now (line .entry)))) ⌝ }
 {
     let s = part(line, at, width);
     if is_printable(s) {
@@ -40,18 +40,18 @@ pub fn filled_no(line: &[u8], at: usize, width: usize) -> u8
 }
 
 // A text that may be blank.
-pub fn optional_no(line: &[u8], at: usize, width: usize) -> u8
-    ensures { λ r. ⌜ r ≡ fieldNo (optional width) [] (take width (drop at (now (line .entry)))) ⌝ }
+pub fn optional_answer(line: &[u8], at: usize, width: usize) -> u8
+    ensures { λ r. ⌜ r ≡ fieldAnswer (optional width) [] (take width (drop at (now (line .entry)))) ⌝ }
 {
     if is_blank(part(line, at, width)) {
         return 0;
     }
-    filled_no(line, at, width)
+    filled_answer(line, at, width)
 }
 
 // A text that may be anything.
-pub fn free_no(line: &[u8], at: usize, width: usize) -> u8
-    ensures { λ r. ⌜ r ≡ fieldNo (free width) [] (take width (drop at (now (line .entry)))) ⌝ }
+pub fn free_answer(line: &[u8], at: usize, width: usize) -> u8
+    ensures { λ r. ⌜ r ≡ fieldAnswer (free width) [] (take width (drop at (now (line .entry)))) ⌝ }
 {
     if is_printable(part(line, at, width)) {
         0
@@ -61,10 +61,10 @@ pub fn free_no(line: &[u8], at: usize, width: usize) -> u8
 }
 
 // A text that has to be this one.
-pub fn exactly_no(line: &[u8], at: usize, width: usize, text: &[u8]) -> u8
-    ensures { λ r. ⌜ r ≡ fieldNo (filled width) (test (same (take width (drop at (now (line .entry)))) (now (text .entry))) wrongValue ∷ []) (take width (drop at (now (line .entry)))) ⌝ }
+pub fn exactly_answer(line: &[u8], at: usize, width: usize, text: &[u8]) -> u8
+    ensures { λ r. ⌜ r ≡ fieldAnswer (filled width) (test (same (take width (drop at (now (line .entry)))) (now (text .entry))) wrongValue ∷ []) (take width (drop at (now (line .entry)))) ⌝ }
 {
-    let f = filled_no(line, at, width);
+    let f = filled_answer(line, at, width);
     if f != 0 {
         return f;
     }

@@ -13,26 +13,26 @@ use Rattle.reading.specs.declared.Name.{Name}
 use Rattle.reading.specs.declared.Name.the-variants.{Unwanted, Due, Read, Past}
 use Rattle.reading.specs.declared.State.{State}
 
-abbrev pub stageNo : Stage → ℕ
-stageNo Start = 0
-stageNo Headed = 1
-stageNo Opened = 2
-stageNo Ordered = 3
-stageNo Item = 4
-stageNo Closed = 5
-stageNo Done = 6
+abbrev pub stageNumber : Stage → ℕ
+stageNumber Start = 0
+stageNumber Headed = 1
+stageNumber Opened = 2
+stageNumber Ordered = 3
+stageNumber Item = 4
+stageNumber Closed = 5
+stageNumber Done = 6
 
 abbrev pub isStage : Stage → Stage → Bool
-isStage a b = eqb (stageNo a) (stageNo b)
+isStage a b = eqb (stageNumber a) (stageNumber b)
 
-abbrev pub nameNo : Name → ℕ
-nameNo Unwanted = 0
-nameNo Due = 1
-nameNo Read = 2
-nameNo Past = 3
+abbrev pub nameNumber : Name → ℕ
+nameNumber Unwanted = 0
+nameNumber Due = 1
+nameNumber Read = 2
+nameNumber Past = 3
 
 abbrev pub isName : Name → Name → Bool
-isName a b = eqb (nameNo a) (nameNo b)
+isName a b = eqb (nameNumber a) (nameNumber b)
 
 -- a batch header: after the file header or a batch
 unfoldable pub mayOpen : Stage → Bool

@@ -1,7 +1,7 @@
 // The order of records: which kind may stand in a state.
 ghost use mathlib.Core.Path.{_≡_};
 ghost use Rattle.format.specs.Rules.{mostDescriptions};
-ghost use Rattle.reading.specs.Order.{stageNo, isStage, nameNo, isName, mayOpen, mayFix, mayEnd, mayPay, mayName, textsBy, mayText, mayRefer, mayDescribe, allowed};
+ghost use Rattle.reading.specs.Order.{stageNumber, isStage, nameNumber, isName, mayOpen, mayFix, mayEnd, mayPay, mayName, textsBy, mayText, mayRefer, mayDescribe, allowed};
 use crate::Name;
 use crate::Stage;
 use crate::State;
@@ -9,8 +9,8 @@ use format::Group;
 use format::Kind;
 use record::types::is_same_group;
 
-fn stage_no(p: Stage) -> u64
-    ensures { λ r. ⌜ r ≡ stageNo p ⌝ }
+fn stage_number(p: Stage) -> u64
+    ensures { λ r. ⌜ r ≡ stageNumber p ⌝ }
 {
     match p {
         Stage::Start => 0,
@@ -26,11 +26,11 @@ fn stage_no(p: Stage) -> u64
 pub(crate) fn is_stage(a: Stage, b: Stage) -> bool
     ensures { λ r. ⌜ r ≡ isStage a b ⌝ }
 {
-    stage_no(a) == stage_no(b)
+    stage_number(a) == stage_number(b)
 }
 
-fn name_no(n: Name) -> u64
-    ensures { λ r. ⌜ r ≡ nameNo n ⌝ }
+fn name_number(n: Name) -> u64
+    ensures { λ r. ⌜ r ≡ nameNumber n ⌝ }
 {
     match n {
         Name::Unwanted => 0,
@@ -43,7 +43,7 @@ fn name_no(n: Name) -> u64
 fn is_name(a: Name, b: Name) -> bool
     ensures { λ r. ⌜ r ≡ isName a b ⌝ }
 {
-    name_no(a) == name_no(b)
+    name_number(a) == name_number(b)
 }
 
 fn may_open(p: Stage) -> bool

@@ -26,8 +26,8 @@ use Rattle.format.specs.declared.TypeRead.{TypeRead}
 use Rattle.format.specs.declared.TransactionType.{TransactionType}
 use Rattle.field.specs.declared.numbers.Digits.{Digits}
 use Rattle.field.specs.declared.numbers.Numeric.{Numeric}
-use Rattle.field.specs.Rows.{Row, row, cut, firstNo, fieldNo, rowsAt, checkRows, firstOr}
-use Rattle.field.specs.Leaf.{digitsOf, numericNo, numericOf, rangeTests, dateTests, isOwnIf, partyTests}
+use Rattle.field.specs.Rows.{Row, row, cut, firstAnswer, fieldAnswer, rowsAt, checkRows, firstOr}
+use Rattle.field.specs.Leaf.{digitsOf, numericAnswer, numericOf, rangeTests, dateTests, isOwnIf, partyTests}
 use Rattle.field.proofs.Rows.{row-next, row-none, rows-passed, no-row, of-value, ranged-row, party-row}
 use Rattle.record.specs.declared.Fault.{Fault}
 use Rattle.record.specs.declared.Batch.{Batch}
@@ -92,14 +92,14 @@ module _ {p : List ℕ} {d : Bool} (l : List ℕ) (i : p ≡ take 4 (drop 24 l))
 
 -- the row, with the creation date as it stands
 pub identification-row : {r : Numeric} {n : ℕ} (l t : List ℕ) → r ≡ numericOf dateTests l → r .number ≡ 0
-    → n ≡ fieldNo (filled 4) (test (isIdentification t) wrongValue ∷ test (isOfDay (r .value) t) differs ∷ []) t
-    → n ≡ fieldNo (filled 4) (test (isIdentification t) wrongValue ∷ test (isOfDay (valueOf l) t) differs ∷ []) t
-identification-row l t e z h = h ∙ ap (λ v. fieldNo (filled 4) (test (isIdentification t) wrongValue ∷ test (isOfDay v t) differs ∷ []) t) (of-value dateTests l e z)
+    → n ≡ fieldAnswer (filled 4) (test (isIdentification t) wrongValue ∷ test (isOfDay (r .value) t) differs ∷ []) t
+    → n ≡ fieldAnswer (filled 4) (test (isIdentification t) wrongValue ∷ test (isOfDay (valueOf l) t) differs ∷ []) t
+identification-row l t e z h = h ∙ ap (λ v. fieldAnswer (filled 4) (test (isIdentification t) wrongValue ∷ test (isOfDay v t) differs ∷ []) t) (of-value dateTests l e z)
 
 -- ## Numbers with a test more
 
 pub at-least : {f : Numeric} (low high : ℕ) (l : List ℕ) → f ≡ numericOf (rangeTests low high) l → f .number ≡ 0 → low ≤ f .value
-unfolding numericOf numericNo fieldNo pick
+unfolding numericOf numericAnswer fieldAnswer pick
 at-least {f} low high l e z = rw (of-value (rangeTests low high) l e z) (by (leb (length l) 18) (all isDigit l) (leb low (valueOf l)) refl (leb (valueOf l) high) (sym (ap (λ (n : Numeric). n .number) e) ∙ z))
   where
     by : (a b c : Bool) → leb low (valueOf l) ≡ c → (d : Bool) → _≡_ {A = ℕ} (pick a (pick b (pick (c && d) 0 5) 4) 4) 0 → low ≤ valueOf l
@@ -111,8 +111,8 @@ at-least {f} low high l e z = rw (of-value (rangeTests low high) l e z) (by (leb
 abbrev sequenceTests : ℕ → ℕ → List Test
 sequenceTests before v = test (inRange 1 maxSequence v) wrongValue ∷ test (isNext before v) differs ∷ []
 
-pub sequence-row : {r : ℕ} (before : ℕ) (m : List ℕ) → r ≡ numericNo (sequenceTests before) (take 4 m)
-    → r ≡ fieldNo (numeric 4) (test (inRange 1 maxSequence (valueOf (take 4 m))) wrongValue ∷ test (isNext before (valueOf (take 4 m))) differs ∷ []) (take 4 m)
+pub sequence-row : {r : ℕ} (before : ℕ) (m : List ℕ) → r ≡ numericAnswer (sequenceTests before) (take 4 m)
+    → r ≡ fieldAnswer (numeric 4) (test (inRange 1 maxSequence (valueOf (take 4 m))) wrongValue ∷ test (isNext before (valueOf (take 4 m))) differs ∷ []) (take 4 m)
 sequence-row before m e = no-row (sequenceTests before) 4 m e refl
 
 pub is-next : (before n : ℕ) → 1 ≤ n → n - 1 ≡ before → eqb n (suc before) ≡ true
@@ -124,8 +124,8 @@ is-not-next before n h e = ne-eqb n (suc before) (λ k. e (omega arith))
 abbrev nameCodeTests : Group → ℕ → List Test
 nameCodeTests g v = test (inRange 1 2 v) wrongValue ∷ test (isNameCodeIn g v) differs ∷ []
 
-pub name-code-row : {r : ℕ} (g : Group) (m : List ℕ) → r ≡ numericNo (nameCodeTests g) (take 1 m)
-    → r ≡ fieldNo (numeric 1) (test (inRange 1 2 (valueOf (take 1 m))) wrongValue ∷ test (isNameCodeIn g (valueOf (take 1 m))) differs ∷ []) (take 1 m)
+pub name-code-row : {r : ℕ} (g : Group) (m : List ℕ) → r ≡ numericAnswer (nameCodeTests g) (take 1 m)
+    → r ≡ fieldAnswer (numeric 1) (test (inRange 1 2 (valueOf (take 1 m))) wrongValue ∷ test (isNameCodeIn g (valueOf (take 1 m))) differs ∷ []) (take 1 m)
 name-code-row g m e = no-row (nameCodeTests g) 1 m e refl
 
 pub name-payments : {g : Group} (n : ℕ) → g ≡ Payments → isNameCodeIn g n ≡ true
@@ -166,12 +166,12 @@ below h = omega arith
 -- the rows of both variants
 abbrev headerRows : Bool → Option Group → ℕ → List ℕ → List Row
 headerRows identified g before l =
-    row 6 (fieldNo (filled 2) (test (isGroup (take 2 (drop 5 l))) wrongValue ∷ groupTests g (take 2 (drop 5 l))) (take 2 (drop 5 l)))
-    ∷ row 8 (fieldNo (numeric 10) (test (inRange 1 maxAccount (valueOf (take 10 (drop 7 l)))) wrongValue ∷ test (isOrderingAccount (valueOf (take 10 (drop 7 l)))) wrongAccount ∷ []) (take 10 (drop 7 l)))
-    ∷ row 18 (fieldNo (numeric 4) (test (inRange 1 maxSequence (valueOf (take 4 (drop 17 l)))) wrongValue ∷ test (isNext before (valueOf (take 4 (drop 17 l)))) differs ∷ []) (take 4 (drop 17 l)))
-    ∷ row 22 (fieldNo (filled 3) (test (same (take 3 (drop 21 l)) EUR) wrongValue ∷ []) (take 3 (drop 21 l)))
-    ∷ row 25 (pick identified (fieldNo (filled 16) [] (take 16 (drop 24 l))) (fieldNo (filler 16) [] (take 16 (drop 24 l))))
-    ∷ row 41 (fieldNo (filler 10) [] (take 10 (drop 40 l)))
+    row 6 (fieldAnswer (filled 2) (test (isGroup (take 2 (drop 5 l))) wrongValue ∷ groupTests g (take 2 (drop 5 l))) (take 2 (drop 5 l)))
+    ∷ row 8 (fieldAnswer (numeric 10) (test (inRange 1 maxAccount (valueOf (take 10 (drop 7 l)))) wrongValue ∷ test (isOrderingAccount (valueOf (take 10 (drop 7 l)))) wrongAccount ∷ []) (take 10 (drop 7 l)))
+    ∷ row 18 (fieldAnswer (numeric 4) (test (inRange 1 maxSequence (valueOf (take 4 (drop 17 l)))) wrongValue ∷ test (isNext before (valueOf (take 4 (drop 17 l)))) differs ∷ []) (take 4 (drop 17 l)))
+    ∷ row 22 (fieldAnswer (filled 3) (test (same (take 3 (drop 21 l)) EUR) wrongValue ∷ []) (take 3 (drop 21 l)))
+    ∷ row 25 (pick identified (fieldAnswer (filled 16) [] (take 16 (drop 24 l))) (fieldAnswer (filler 16) [] (take 16 (drop 24 l))))
+    ∷ row 41 (fieldAnswer (filler 10) [] (take 10 (drop 40 l)))
     ∷ []
 
 header-rows : (identified : Bool) (g : Option Group) (before : ℕ) (l : List ℕ) → firstOr faultAt (headerRows identified g before l) noFault ≡ headerFault identified g before l
@@ -187,8 +187,8 @@ header-via identified g before l e = e ∙ header-rows identified g before l
 pub taken-made : {k : TransactionType} (t : TypeRead) (n p b : ℕ) → k ≡ typeOr t → _≡_ {A = TransactionRead} (record { number = 0; column = 0; read = record { kind = k; amount = n; payer = p; beneficiary = b } }) (takenTransaction t n p b)
 taken-made t n p b e = rw e
 
-pub type-row : {t : TypeRead} {n : ℕ} (g : Group) (l : List ℕ) → t ≡ typeOf l → n ≡ fieldNo (filled 4) (typeTests g t) l → n ≡ fieldNo (filled 4) (typeTests g (typeOf l)) l
-type-row g l e h = h ∙ ap (λ t. fieldNo (filled 4) (typeTests g t) l) e
+pub type-row : {t : TypeRead} {n : ℕ} (g : Group) (l : List ℕ) → t ≡ typeOf l → n ≡ fieldAnswer (filled 4) (typeTests g t) l → n ≡ fieldAnswer (filled 4) (typeTests g (typeOf l)) l
+type-row g l e h = h ∙ ap (λ t. fieldAnswer (filled 4) (typeTests g t) l) e
 
 own-payer : (g : Group) (own v : ℕ) → isOwnIf (sameGroup Payments g) own v ≡ isOwnPayer g own v
 unfolding isOwnIf isOwnPayer
@@ -201,15 +201,15 @@ own-beneficiary Payments own v = refl
 own-beneficiary Debits own v = refl
 
 abbrev partyRow : List ℕ → Bool → ℕ
-partyRow l b = fieldNo (numeric 10) (test (inRange 1 maxAccount (valueOf l)) wrongValue ∷ test (isAccount (valueOf l)) wrongAccount ∷ test b differs ∷ []) l
+partyRow l b = fieldAnswer (numeric 10) (test (inRange 1 maxAccount (valueOf l)) wrongValue ∷ test (isAccount (valueOf l)) wrongAccount ∷ test b differs ∷ []) l
 
 module _ {r : Numeric} (g : Group) (own : ℕ) (m : List ℕ) where
   pub payer-row : r ≡ numericOf (partyTests (sameGroup Payments g) own) (take 10 m)
-      → r .number ≡ fieldNo (numeric 10) (test (inRange 1 maxAccount (valueOf (take 10 m))) wrongValue ∷ test (isAccount (valueOf (take 10 m))) wrongAccount ∷ test (isOwnPayer g own (valueOf (take 10 m))) differs ∷ []) (take 10 m)
+      → r .number ≡ fieldAnswer (numeric 10) (test (inRange 1 maxAccount (valueOf (take 10 m))) wrongValue ∷ test (isAccount (valueOf (take 10 m))) wrongAccount ∷ test (isOwnPayer g own (valueOf (take 10 m))) differs ∷ []) (take 10 m)
   payer-row e = party-row 10 m (sameGroup Payments g) own e refl ∙ ap (partyRow (take 10 m)) (own-payer g own (valueOf (take 10 m)))
 
   pub beneficiary-row : r ≡ numericOf (partyTests (sameGroup Debits g) own) (take 10 m)
-      → r .number ≡ fieldNo (numeric 10) (test (inRange 1 maxAccount (valueOf (take 10 m))) wrongValue ∷ test (isAccount (valueOf (take 10 m))) wrongAccount ∷ test (isOwnBeneficiary g own (valueOf (take 10 m))) differs ∷ []) (take 10 m)
+      → r .number ≡ fieldAnswer (numeric 10) (test (inRange 1 maxAccount (valueOf (take 10 m))) wrongValue ∷ test (isAccount (valueOf (take 10 m))) wrongAccount ∷ test (isOwnBeneficiary g own (valueOf (take 10 m))) differs ∷ []) (take 10 m)
   beneficiary-row e = party-row 10 m (sameGroup Debits g) own e refl ∙ ap (partyRow (take 10 m)) (own-beneficiary g own (valueOf (take 10 m)))
 
 pub ruleset parts = (type-row, payer-row, beneficiary-row)
@@ -220,11 +220,11 @@ party-via n own l e h = h ∙ ap (λ m. numericOf (partyTests m own) l) e
 -- where no row has a number
 pub all-taken : {x : TransactionRead} {t : TypeRead} {kind rest : ℕ} {amount payer beneficiary : Numeric} (g : Group) (own : ℕ) (l : List ℕ)
     → x ≡ takenTransaction t (amount .value) (payer .value) (beneficiary .value)
-    → t ≡ typeOf (take 4 (drop 5 l)) → kind ≡ fieldNo (filled 4) (typeTests g t) (take 4 (drop 5 l)) → kind ≡ 0
+    → t ≡ typeOf (take 4 (drop 5 l)) → kind ≡ fieldAnswer (filled 4) (typeTests g t) (take 4 (drop 5 l)) → kind ≡ 0
     → amount ≡ numericOf (rangeTests 1 maxAmount) (take 12 (drop 9 l)) → amount .number ≡ 0
     → payer ≡ numericOf (partyTests (sameGroup Payments g) own) (take 10 (drop 21 l)) → payer .number ≡ 0
     → beneficiary ≡ numericOf (partyTests (sameGroup Debits g) own) (take 10 (drop 31 l)) → beneficiary .number ≡ 0
-    → rest ≡ fieldNo (filler 9) [] (take 9 (drop 41 l)) → rest ≡ 0
+    → rest ≡ fieldAnswer (filler 9) [] (take 9 (drop 41 l)) → rest ≡ 0
     → x ≡ transactionOf g own l
 unfolding transactionOf
 all-taken g own l h t k k0 a a0 p p0 b b0 f f0 =
@@ -243,7 +243,7 @@ all-taken g own l h t k k0 a a0 p p0 b b0 f f0 =
 split-rows : {A : Type 0} (f : ℕ → ℕ → A) (a : A) (c : ℕ) (fs : List Field) (t : Tests fs) (xs : List ℕ) (k : List Row) → firstOr f (rowsAt c fs t xs k) a ≡ firstOr f (rowsAt c fs t xs []) (firstOr f k a)
 unfolding firstOr
 split-rows f a c [] t xs k = refl
-split-rows f a c (g ∷ fs) t xs k = ap (λ r. pick (eqb (fieldNo g (t .0) (cut c (width g) xs)) 0) r (f c (fieldNo g (t .0) (cut c (width g) xs)))) (split-rows f a (c + width g) fs (t .1) xs k)
+split-rows f a c (g ∷ fs) t xs k = ap (λ r. pick (eqb (fieldAnswer g (t .0) (cut c (width g) xs)) 0) r (f c (fieldAnswer g (t .0) (cut c (width g) xs)))) (split-rows f a (c + width g) fs (t .1) xs k)
 
 module _ (good : TransactionRead) (z : good .number ≡ 0) where
   -- the same rows as a fault
@@ -323,11 +323,11 @@ rows-all P f a (row c n ∷ R) g h = by (eqb n 0) refl (λ e. rows-all P f a R g
     by true e k = k (eqb-true n 0 e)
     by false e k = g c n
 
-in-range : (w low high v : ℕ) (ts : List Test) (l : List ℕ) → fieldNo (numeric w) (test (inRange low high v) 5 ∷ ts) l ≡ 0 → v ≤ high
-unfolding fieldNo pick
+in-range : (w low high v : ℕ) (ts : List Test) (l : List ℕ) → fieldAnswer (numeric w) (test (inRange low high v) 5 ∷ ts) l ≡ 0 → v ≤ high
+unfolding fieldAnswer pick
 in-range w low high v ts l e = by (wellFormed (numeric w) l) (leb low v) (leb v high) refl e
   where
-    by : (p q u : Bool) → leb v high ≡ u → pick p (pick (q && u) (firstNo ts) 5) 4 ≡ 0 → v ≤ high
+    by : (p q u : Bool) → leb v high ≡ u → pick p (pick (q && u) (firstAnswer ts) 5) 4 ≡ 0 → v ≤ high
     by true true true h e = leb-true v high h
     by true true false h e = absurd (omega arith)
     by true false u h e = absurd (omega arith)
@@ -400,17 +400,17 @@ first-small (row c n ∷ R) h = by (eqb n 0) (first-small R (h .1))
     by true k = k
     by false k = h .0
 
-tests-small : (ts : List Test) → smallTests ts ≡ true → firstNo ts ≤ 9
+tests-small : (ts : List Test) → smallTests ts ≡ true → firstAnswer ts ≤ 9
 unfolding pick
 tests-small [] h = zero-le
 tests-small (test true n ∷ ts) h = tests-small ts (and-second (leb n 9) (smallTests ts) h)
 tests-small (test false n ∷ ts) h = leb-true n 9 (and-first (leb n 9) (smallTests ts) h)
 
-field-small : (f : Field) (ts : List Test) (l : List ℕ) → smallTests ts ≡ true → fieldNo f ts l ≤ 9
-unfolding fieldNo pick
+field-small : (f : Field) (ts : List Test) (l : List ℕ) → smallTests ts ≡ true → fieldAnswer f ts l ≤ 9
+unfolding fieldAnswer pick
 field-small f ts l h = by (wellFormed f l)
   where
-    by : (q : Bool) → pick q (firstNo ts) 4 ≤ 9
+    by : (q : Bool) → pick q (firstAnswer ts) 4 ≤ 9
     by true = tests-small ts h
     by false = omega arith
 

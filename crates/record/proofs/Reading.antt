@@ -22,7 +22,7 @@ use Rattle.format.specs.declared.TransactionType.{TransactionType}
 use Rattle.format.specs.declared.TypeRead.{TypeRead}
 use Rattle.format.proofs.Checks.{read-field}
 use Rattle.field.specs.declared.numbers.Digits.{Digits}
-use Rattle.field.specs.Rows.{Row, cut, firstNo, fieldNo, rowsAt, checkRows, fieldsAt, firstOr}
+use Rattle.field.specs.Rows.{Row, cut, firstAnswer, fieldAnswer, rowsAt, checkRows, fieldsAt, firstOr}
 use Rattle.field.specs.Leaf.{noDigits, digitsOf}
 use Rattle.field.proofs.Numerics.{digits-are}
 use Rattle.record.specs.Faults.{faultAt, noFault, firstFault, fieldsOf, testsFor, maximaFor, faultOf}
@@ -93,15 +93,15 @@ narrow-rest (optional w) fs h = h
 narrow-rest (free w) fs h = h
 narrow-rest (filler w) fs h = h
 
-pub is-formed : (f : Field) (ts : List Test) (l : List ℕ) → fieldNo f ts l ≡ 0 → (wellFormed f l ≡ true) × (firstNo ts ≡ 0)
-unfolding fieldNo pick
+pub is-formed : (f : Field) (ts : List Test) (l : List ℕ) → fieldAnswer f ts l ≡ 0 → (wellFormed f l ≡ true) × (firstAnswer ts ≡ 0)
+unfolding fieldAnswer pick
 is-formed f ts l z = by (wellFormed f l) z
   where
-    by : (q : Bool) → pick q (firstNo ts) 4 ≡ 0 → (q ≡ true) × (firstNo ts ≡ 0)
+    by : (q : Bool) → pick q (firstAnswer ts) 4 ≡ 0 → (q ≡ true) × (firstAnswer ts ≡ 0)
     by true e = (refl, e)
     by false e = absurd (omega arith)
 
-formed-field : (f : Field) (ts : List Test) (m : List ℕ) → narrow (f ∷ []) ≡ true → fieldNo f ts (take (width f) m) ≡ 0 → valueIn f (take (width f) m) ≡ readField f (take (width f) m)
+formed-field : (f : Field) (ts : List Test) (m : List ℕ) → narrow (f ∷ []) ≡ true → fieldAnswer f ts (take (width f) m) ≡ 0 → valueIn f (take (width f) m) ≡ readField f (take (width f) m)
 formed-field (numeric w) ts m h z =
     let b : length (take w m) ≤ 18 = rw length-take (omega (arith, leb-true w 18 (and-first (leb w 18) true h))) in
     sym (ap (λ (d : Digits). d .value) (digits-are (take w m) b (is-formed (numeric w) ts (take w m) z .0) refl))
@@ -116,7 +116,7 @@ formed c [] t xs k h z = refl
 formed c (f ∷ fs) t xs k h z = by (eqb n 0) refl (formed (c + width f) fs (t .1) xs k (narrow-rest f fs h)) z
   where
     n : ℕ
-    n = fieldNo f (t .0) (cut c (width f) xs)
+    n = fieldAnswer f (t .0) (cut c (width f) xs)
 
     rest : Fault
     rest = firstOr faultAt (rowsAt (c + width f) fs (t .1) xs k) noFault

@@ -11,7 +11,7 @@ use Rattle.format.specs.declared.Group.{Group}
 use Rattle.format.specs.declared.TransactionType.{TransactionType}
 use Rattle.format.specs.declared.TypeRead.{TypeRead}
 use Rattle.format.specs.declared.TypeRead.the-variants.{Of, NoType}
-use Rattle.field.specs.Rows.{firstNo}
+use Rattle.field.specs.Rows.{firstAnswer}
 use Rattle.record.specs.Faults.{groupSaid}
 
 -- an arm of a function by cases
@@ -27,20 +27,20 @@ pub text-via : {g h : Group} {x : Bool} (l : List ℕ) → g ≡ h → x ≡ sam
 text-via l e p = rw e p
 
 -- a group, and the one so far where that is said
-abbrev groupNo : Bool → Group → List ℕ → ℕ
-groupNo said g l = firstNo (test (isGroup l) wrongValue ∷ groupTests (groupSaid said g) l)
+abbrev groupAnswer : Bool → Group → List ℕ → ℕ
+groupAnswer said g l = firstAnswer (test (isGroup l) wrongValue ∷ groupTests (groupSaid said g) l)
 
 module _ {p : List ℕ} {a : Bool} (l : List ℕ) (d : p ≡ l) (e : a ≡ isGroup p) where
   is-group : {v : Bool} → a ≡ v → isGroup l ≡ v
   is-group h = rw (← d) (sym e ∙ h)
 
   module _ (said : Bool) (g : Group) where
-    pub group-wrong : a ≡ false → 5 ≡ groupNo said g l
+    pub group-wrong : a ≡ false → 5 ≡ groupAnswer said g l
     unfolding pick
     group-wrong h = rw (is-group h)
 
     module _ (h : a ≡ true) where
-      pub group-free : said ≡ false → 0 ≡ groupNo said g l
+      pub group-free : said ≡ false → 0 ≡ groupAnswer said g l
       unfolding pick
       group-free k = rw (is-group h, k)
 
@@ -48,26 +48,26 @@ module _ {p : List ℕ} {a : Bool} (l : List ℕ) (d : p ≡ l) (e : a ≡ isGro
         is-text : {v : Bool} → b ≡ v → same l (groupText g) ≡ v
         is-text u = rw (← d) (sym f ∙ u)
 
-        pub group-right : b ≡ true → 0 ≡ groupNo said g l
+        pub group-right : b ≡ true → 0 ≡ groupAnswer said g l
         unfolding pick
         group-right u = rw (is-group h, k, is-text u)
 
-        pub group-other : b ≡ false → 7 ≡ groupNo said g l
+        pub group-other : b ≡ false → 7 ≡ groupAnswer said g l
         unfolding pick
         group-other u = rw (is-group h, k, is-text u)
 
 -- ## Types
 
 module _ {t : TypeRead} {y : TransactionType} {h : Group} {b : Bool} (g : Group) (e : t ≡ Of y) (k : h ≡ typeGroup y) (s : b ≡ sameGroup g h) where
-  pub type-right : b ≡ true → 0 ≡ firstNo (typeTests g t)
+  pub type-right : b ≡ true → 0 ≡ firstAnswer (typeTests g t)
   unfolding pick
   type-right v = let q : sameGroup g (typeGroup y) ≡ true = rw (← k) (sym s ∙ v) in rw (e, q)
 
-  pub type-other : b ≡ false → 7 ≡ firstNo (typeTests g t)
+  pub type-other : b ≡ false → 7 ≡ firstAnswer (typeTests g t)
   unfolding pick
   type-other v = let q : sameGroup g (typeGroup y) ≡ false = rw (← k) (sym s ∙ v) in rw (e, q)
 
-pub type-none : {t : TypeRead} (g : Group) → t ≡ NoType → 5 ≡ firstNo (typeTests g t)
+pub type-none : {t : TypeRead} (g : Group) → t ≡ NoType → 5 ≡ firstAnswer (typeTests g t)
 unfolding pick
 type-none g e = rw e
 

@@ -9,7 +9,7 @@ use Rattle.format.specs.Tests.{Tests, Check, fileHeaderTests, batchHeaderTests,
 use Rattle.format.specs.declared.Kind.{Kind}
 use Rattle.format.specs.declared.Kind.the-variants.{FileHeader, BatchHeaderB, BatchHeaderC, FixedDescription, OrderingParty, Transaction, NamePayer, CityPayer, PaymentReference, Description, NameBeneficiary, CityBeneficiary, BatchTrailer, FileTrailer}
 use Rattle.format.specs.declared.Group.{Group}
-use Rattle.field.specs.Rows.{Row, row, fieldNo, rowsAt, checkRows, fieldsAt, firstOr}
+use Rattle.field.specs.Rows.{Row, row, fieldAnswer, rowsAt, checkRows, fieldsAt, firstOr}
 use Rattle.format.specs.Fields.{filled, filler}
 use Rattle.record.specs.declared.Fault.{Fault}
 use Rattle.record.specs.declared.Batch.{Batch}
@@ -83,7 +83,7 @@ headerFault false g before line = fieldsFault BatchHeaderB (batchHeaderTests g b
 
 -- a text of a width at column 6, and spaces: so many, after the first `at` characters of the line
 unfoldable pub textFault : ℕ → ℕ → ℕ → ℕ → List ℕ → Fault
-textFault w at rest column line = firstFault (row 6 (fieldNo (filled w) [] (take w (drop 5 line))) ∷ row column (fieldNo (filler rest) [] (take rest (drop at line))) ∷ [])
+textFault w at rest column line = firstFault (row 6 (fieldAnswer (filled w) [] (take w (drop 5 line))) ∷ row column (fieldAnswer (filler rest) [] (take rest (drop at line))) ∷ [])
 
 unfoldable pub maximaFault : Batch → ℕ → Fault
 maximaFault b next = firstFault (checkRows (batchMaxima (b .items) (b .total) next))

@@ -12,7 +12,7 @@ ghost use Rattle.format.specs.Tests.{test, isNext, fileHeaderTests, orderingPar
 ghost use Rattle.format.specs.declared.Kind.the-variants.{FileHeader, OrderingParty, CityPayer, BatchTrailer, FileTrailer};
 ghost use Rattle.format.specs.declared.Kind.the-variants as kinds;
 ghost use Rattle.format.specs.declared.Group.the-variants.{Payments, Debits};
-ghost use Rattle.field.specs.Rows.{row, fieldNo};
+ghost use Rattle.field.specs.Rows.{row, fieldAnswer};
 ghost use Rattle.field.specs.Leaf.{numericOf, rangeTests, partyTests};
 ghost use Rattle.record.specs.Faults.{faultAt, firstFault, fieldsOf, fieldsFault, groupSaid, headerFault, textFault, maximaFault, faultOf};
 ghost use Rattle.record.specs.Read.{refusedTransaction, takenTransaction, transactionOf};
@@ -20,9 +20,9 @@ use crate::Batch;
 use crate::Fault;
 use crate::Transaction;
 use crate::TransactionRead;
-use crate::types::group_no;
+use crate::types::group_answer;
+use crate::types::type_answer;
 use crate::types::type_in;
-use crate::types::type_no;
 use crate::types::type_or;
 use field::accounts::ordering;
 use field::accounts::party;
@@ -30,18 +30,18 @@ use field::bytes::is_digits;
 use field::bytes::is_same;
 use field::bytes::part;
 use field::dates::date;
-use field::dates::desired_no;
+use field::dates::desired_answer;
 use field::numbers::Numeric;
 use field::numbers::digits_at;
-use field::numbers::equal_no;
+use field::numbers::equal_answer;
 use field::numbers::in_range;
 use field::numbers::ranged;
-use field::numbers::total_no;
-use field::texts::exactly_no;
-use field::texts::filled_no;
-use field::texts::filler_no;
-use field::texts::free_no;
-use field::texts::optional_no;
+use field::numbers::total_answer;
+use field::texts::exactly_answer;
+use field::texts::filled_answer;
+use field::texts::filler_answer;
+use field::texts::free_answer;
+use field::texts::optional_answer;
 use format::Group;
 use format::Kind;
 use format::TransactionType;
@@ -63,10 +63,10 @@ fn last(number: u8, column: u8) -> Fault
 }
 
 // The creation day, then a counter 01 to 99.
-fn identification_no(line: &[u8], created: u64) -> u8
-    ensures { λ r. ⌜ r ≡ fieldNo (filled 4) (test (isIdentification (take 4 (drop 24 (now (line .entry))))) wrongValue ∷ test (isOfDay created (take 4 (drop 24 (now (line .entry))))) differs ∷ []) (take 4 (drop 24 (now (line .entry)))) ⌝ }
+fn identification_answer(line: &[u8], created: u64) -> u8
+    ensures { λ r. ⌜ r ≡ fieldAnswer (filled 4) (test (isIdentification (take 4 (drop 24 (now (line .entry))))) wrongValue ∷ test (isOfDay created (take 4 (drop 24 (now (line .entry))))) differs ∷ []) (take 4 (drop 24 (now (line .entry)))) ⌝ }
 {
-    let f = filled_no(line, 24, 4);
+    let f = filled_answer(line, 24, 4);
     if f != 0 {
         return f;
     }
@@ -92,15 +92,15 @@ fn file_header(line: &[u8]) -> Fault
     if created.number != 0 {
         return fault(created.number, 6);
     }
-    let name = exactly_no(line, 11, 8, b"CLIEOP03");
+    let name = exactly_answer(line, 11, 8, b"CLIEOP03");
     if name != 0 {
         return fault(name, 12);
     }
-    let sender = filled_no(line, 19, 5);
+    let sender = filled_answer(line, 19, 5);
     if sender != 0 {
         return fault(sender, 20);
     }
-    let identification = identification_no(line, created.value);
+    let identification = identification_answer(line, created.value);
     if identification != 0 {
         return fault(identification, 25);
     }
@@ -108,12 +108,12 @@ fn file_header(line: &[u8]) -> Fault
     if duplicate.number != 0 {
         return fault(duplicate.number, 29);
     }
-    last(filler_no(line, 29, 21), 30)
+    last(filler_answer(line, 29, 21), 30)
 }
 
 // A number from 1 to 9999, and the one after that before it where there is one.
-fn sequence_no(line: &[u8], before: u64) -> u8
-    ensures { λ r. ⌜ r ≡ fieldNo (numeric 4) (test (inRange 1 maxSequence (valueOf (take 4 (drop 17 (now (line .entry)))))) wrongValue ∷ test (isNext before (valueOf (take 4 (drop 17 (now (line .entry)))))) differs ∷ []) (take 4 (drop 17 (now (line .entry)))) ⌝ }
+fn sequence_answer(line: &[u8], before: u64) -> u8
+    ensures { λ r. ⌜ r ≡ fieldAnswer (numeric 4) (test (inRange 1 maxSequence (valueOf (take 4 (drop 17 (now (line .entry)))))) wrongValue ∷ test (isNext before (valueOf (take 4 (drop 17 (now (line .entry)))))) differs ∷ []) (take 4 (drop 17 (now (line .entry)))) ⌝ }
 {
     let n = ranged(line, 17, 4, 1, Batch::MAX_SEQUENCE);
     if n.number != 0 {
@@ -130,20 +130,20 @@ fn sequence_no(line: &[u8], before: u64) -> u8
 }
 
 // Filled for variant C, blank for B.
-fn batch_identification_no(line: &[u8], identified: bool) -> u8
-    ensures { λ r. ⌜ r ≡ pick identified (fieldNo (filled 16) [] (take 16 (drop 24 (now (line .entry))))) (fieldNo (filler 16) [] (take 16 (drop 24 (now (line .entry))))) ⌝ }
+fn batch_identification_answer(line: &[u8], identified: bool) -> u8
+    ensures { λ r. ⌜ r ≡ pick identified (fieldAnswer (filled 16) [] (take 16 (drop 24 (now (line .entry))))) (fieldAnswer (filler 16) [] (take 16 (drop 24 (now (line .entry))))) ⌝ }
 {
     if identified {
-        filled_no(line, 24, 16)
+        filled_answer(line, 24, 16)
     } else {
-        filler_no(line, 24, 16)
+        filler_answer(line, 24, 16)
     }
 }
 
 fn batch_header(line: &[u8], identified: bool, said: bool, group: Group, before: u64) -> Fault
     ensures { λ r. ⌜ r ≡ headerFault identified (groupSaid said group) before (now (line .entry)) ⌝ }
 {
-    let g = group_no(line, said, group);
+    let g = group_answer(line, said, group);
     if g != 0 {
         return fault(g, 6);
     }
@@ -151,23 +151,23 @@ fn batch_header(line: &[u8], identified: bool, said: bool, group: Group, before:
     if account.number != 0 {
         return fault(account.number, 8);
     }
-    let sequence = sequence_no(line, before);
+    let sequence = sequence_answer(line, before);
     if sequence != 0 {
         return fault(sequence, 18);
     }
-    let currency = exactly_no(line, 21, 3, b"EUR");
+    let currency = exactly_answer(line, 21, 3, b"EUR");
     if currency != 0 {
         return fault(currency, 22);
     }
-    let identification = batch_identification_no(line, identified);
+    let identification = batch_identification_answer(line, identified);
     if identification != 0 {
         return fault(identification, 25);
     }
-    last(filler_no(line, 40, 10), 41)
+    last(filler_answer(line, 40, 10), 41)
 }
 
-fn name_code_no(line: &[u8], group: Group) -> u8
-    ensures { λ r. ⌜ r ≡ fieldNo (numeric 1) (test (inRange 1 2 (valueOf (take 1 (drop 5 (now (line .entry)))))) wrongValue ∷ test (isNameCodeIn group (valueOf (take 1 (drop 5 (now (line .entry)))))) differs ∷ []) (take 1 (drop 5 (now (line .entry)))) ⌝ }
+fn name_code_answer(line: &[u8], group: Group) -> u8
+    ensures { λ r. ⌜ r ≡ fieldAnswer (numeric 1) (test (inRange 1 2 (valueOf (take 1 (drop 5 (now (line .entry)))))) wrongValue ∷ test (isNameCodeIn group (valueOf (take 1 (drop 5 (now (line .entry)))))) differs ∷ []) (take 1 (drop 5 (now (line .entry)))) ⌝ }
 {
     let n = ranged(line, 5, 1, 1, 2);
     if n.number != 0 {
@@ -179,10 +179,10 @@ fn name_code_no(line: &[u8], group: Group) -> u8
     }
 }
 
-fn test_code_no(line: &[u8]) -> u8
-    ensures { λ r. ⌜ r ≡ fieldNo (filled 1) (test (isTestCode (take 1 (drop 47 (now (line .entry))))) wrongValue ∷ []) (take 1 (drop 47 (now (line .entry)))) ⌝ }
+fn test_code_answer(line: &[u8]) -> u8
+    ensures { λ r. ⌜ r ≡ fieldAnswer (filled 1) (test (isTestCode (take 1 (drop 47 (now (line .entry))))) wrongValue ∷ []) (take 1 (drop 47 (now (line .entry)))) ⌝ }
 {
-    let f = filled_no(line, 47, 1);
+    let f = filled_answer(line, 47, 1);
     if f != 0 {
         return f;
     }
@@ -200,23 +200,23 @@ fn test_code_no(line: &[u8]) -> u8
 fn ordering_party(line: &[u8], group: Group) -> Fault
     ensures { λ r. ⌜ r ≡ fieldsFault OrderingParty (orderingPartyTests group (fieldsOf OrderingParty (now (line .entry)))) (now (line .entry)) ⌝ }
 {
-    let code = name_code_no(line, group);
+    let code = name_code_answer(line, group);
     if code != 0 {
         return fault(code, 6);
     }
-    let desired = desired_no(line, 6);
+    let desired = desired_answer(line, 6);
     if desired != 0 {
         return fault(desired, 7);
     }
-    let name = optional_no(line, 12, 35);
+    let name = optional_answer(line, 12, 35);
     if name != 0 {
         return fault(name, 13);
     }
-    let test = test_code_no(line);
+    let test = test_code_answer(line);
     if test != 0 {
         return fault(test, 48);
     }
-    last(filler_no(line, 48, 2), 49)
+    last(filler_answer(line, 48, 2), 49)
 }
 
 fn is_payments(g: Group) -> bool
@@ -293,7 +293,7 @@ pub fn transaction_in(line: &[u8], group: Group, own: u64) -> TransactionRead
     ensures { λ r. ⌜ r ≡ transactionOf group own (now (line .entry)) ⌝ }
 {
     let t = type_in(line);
-    let kind = type_no(line, t, group);
+    let kind = type_answer(line, t, group);
     if kind != 0 {
         return no_transaction(kind, 6);
     }
@@ -309,7 +309,7 @@ pub fn transaction_in(line: &[u8], group: Group, own: u64) -> TransactionRead
     if beneficiary.number != 0 {
         return no_transaction(beneficiary.number, 32);
     }
-    let filler = filler_no(line, 41, 9);
+    let filler = filler_answer(line, 41, 9);
     if filler != 0 {
         return no_transaction(filler, 42);
     }
@@ -347,41 +347,41 @@ fn transaction_fault(line: &[u8], group: Group, batch: Batch) -> Fault
 fn text(line: &[u8], width: usize, at: usize, rest: usize, column: u8) -> Fault
     ensures { λ r. ⌜ r ≡ textFault width at rest column (now (line .entry)) ⌝ }
 {
-    let t = filled_no(line, 5, width);
+    let t = filled_answer(line, 5, width);
     if t != 0 {
         return fault(t, 6);
     }
-    last(filler_no(line, at, rest), column)
+    last(filler_answer(line, at, rest), column)
 }
 
 fn city(line: &[u8]) -> Fault
     ensures { λ r. ⌜ r ≡ fieldsFault CityPayer ([], tt) (now (line .entry)) ⌝ }
 {
-    last(free_no(line, 5, 45), 6)
+    last(free_answer(line, 5, 45), 6)
 }
 
 fn batch_trailer(line: &[u8], batch: Batch) -> Fault
     ensures { λ r. ⌜ r ≡ fieldsFault BatchTrailer (batchTrailerTests (batch .total) (batch .accounts) (batch .items) (fieldsOf BatchTrailer (now (line .entry)))) (now (line .entry)) ⌝ }
 {
-    let total = total_no(line, 5, 18, 1, Batch::MAX_TOTAL, batch.total);
+    let total = total_answer(line, 5, 18, 1, Batch::MAX_TOTAL, batch.total);
     if total != 0 {
         return fault(total, 6);
     }
-    let accounts = equal_no(line, 23, 10, batch.accounts);
+    let accounts = equal_answer(line, 23, 10, batch.accounts);
     if accounts != 0 {
         return fault(accounts, 24);
     }
-    let items = total_no(line, 33, 7, 1, Batch::MAX_ITEMS, batch.items);
+    let items = total_answer(line, 33, 7, 1, Batch::MAX_ITEMS, batch.items);
     if items != 0 {
         return fault(items, 34);
     }
-    last(filler_no(line, 40, 10), 41)
+    last(filler_answer(line, 40, 10), 41)
 }
 
 fn file_trailer(line: &[u8]) -> Fault
     ensures { λ r. ⌜ r ≡ fieldsFault FileTrailer ([], tt) (now (line .entry)) ⌝ }
 {
-    last(filler_no(line, 5, 45), 6)
+    last(filler_answer(line, 5, 45), 6)
 }
 
 // The first fault of a line of that kind, after a batch so far and the group, where it is said.

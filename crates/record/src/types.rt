@@ -7,12 +7,12 @@ ghost use Rattle.format.specs.Fields.{filled};
 ghost use Rattle.format.specs.Answers.{wrongValue};
 ghost use Rattle.format.specs.Rules.{groupText, isGroup, groupOf, sameGroup, typeOf, typeGroup, isUnchecked};
 ghost use Rattle.format.specs.Tests.{test, groupTests, typeTests};
-ghost use Rattle.field.specs.Rows.{firstNo, fieldNo};
+ghost use Rattle.field.specs.Rows.{firstAnswer, fieldAnswer};
 ghost use Rattle.record.specs.Faults.{groupSaid};
 ghost use Rattle.record.specs.Read.{typeOr};
 use field::bytes::is_same;
 use field::bytes::part;
-use field::texts::filled_no;
+use field::texts::filled_answer;
 use format::Group;
 use format::TransactionType;
 use format::TypeRead;
@@ -61,10 +61,10 @@ fn is_text_of(s: &[u8], group: Group) -> bool
 }
 
 // A group, and the one so far where that is said.
-pub(crate) fn group_no(line: &[u8], said: bool, group: Group) -> u8
-    ensures { λ r. ⌜ r ≡ fieldNo (filled 2) (test (isGroup (take 2 (drop 5 (now (line .entry))))) wrongValue ∷ groupTests (groupSaid said group) (take 2 (drop 5 (now (line .entry))))) (take 2 (drop 5 (now (line .entry)))) ⌝ }
+pub(crate) fn group_answer(line: &[u8], said: bool, group: Group) -> u8
+    ensures { λ r. ⌜ r ≡ fieldAnswer (filled 2) (test (isGroup (take 2 (drop 5 (now (line .entry))))) wrongValue ∷ groupTests (groupSaid said group) (take 2 (drop 5 (now (line .entry))))) (take 2 (drop 5 (now (line .entry)))) ⌝ }
 {
-    let f = filled_no(line, 5, 2);
+    let f = filled_answer(line, 5, 2);
     if f != 0 {
         return f;
     }
@@ -152,7 +152,7 @@ pub fn is_unchecked(t: TransactionType) -> bool
 }
 
 fn type_fault(t: TypeRead, group: Group) -> u8
-    ensures { λ r. ⌜ r ≡ firstNo (typeTests group t) ⌝ }
+    ensures { λ r. ⌜ r ≡ firstAnswer (typeTests group t) ⌝ }
 {
     match t {
         TypeRead::Of(y) => if is_same_group(group, type_group(y)) {
@@ -165,10 +165,10 @@ fn type_fault(t: TypeRead, group: Group) -> u8
 }
 
 // A type of the group; t is what its characters stand for.
-pub(crate) fn type_no(line: &[u8], t: TypeRead, group: Group) -> u8
-    ensures { λ r. ⌜ r ≡ fieldNo (filled 4) (typeTests group t) (take 4 (drop 5 (now (line .entry)))) ⌝ }
+pub(crate) fn type_answer(line: &[u8], t: TypeRead, group: Group) -> u8
+    ensures { λ r. ⌜ r ≡ fieldAnswer (filled 4) (typeTests group t) (take 4 (drop 5 (now (line .entry)))) ⌝ }
 {
-    let f = filled_no(line, 5, 4);
+    let f = filled_answer(line, 5, 4);
     if f != 0 {
         return f;
     }

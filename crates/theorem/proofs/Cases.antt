@@ -4,7 +4,7 @@ use Rattle.machine.specs.Lists.{pick, same}
 use Rattle.machine.specs.Digits.{digitsOnto, decimal, valueAfter}
 use Rattle.format.specs.Rules.{daysIn, isDate, weighted, isEleven, isOrderingAccount, isAccount, isOwnPayer, isOwnBeneficiary, typeOf}
 use Rattle.format.specs.Cutting.{rowsFrom}
-use Rattle.field.specs.Rows.{fieldNo, firstOr}
+use Rattle.field.specs.Rows.{fieldAnswer, firstOr}
 use Rattle.record.specs.Faults.{firstFault, faultOf}
 use Rattle.reading.specs.State.{isKept, within}
 use Rattle.reading.specs.Step.{endedAt}
@@ -16,7 +16,7 @@ abbrev _&_ : {A B : Type 0} → A → B → A × B
 a & b = (a, b)
 
 pub worked : Right cases
-unfolding pick same digitsOnto decimal valueAfter daysIn isDate weighted isEleven isOrderingAccount isAccount isOwnPayer isOwnBeneficiary typeOf fieldNo firstOr firstFault faultOf isKept within endedAt rowsFrom linesBy linesOf checkOf
+unfolding pick same digitsOnto decimal valueAfter daysIn isDate weighted isEleven isOrderingAccount isAccount isOwnPayer isOwnBeneficiary typeOf fieldAnswer firstOr firstFault faultOf isKept within endedAt rowsFrom linesBy linesOf checkOf
 worked =
     -- 1, 2
     (refl & refl) & (refl & refl) & (refl & refl) & (refl & refl)

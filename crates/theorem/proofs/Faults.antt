@@ -18,7 +18,7 @@ use Rattle.format.specs.declared.Kind.the-variants.{FileHeader, BatchHeaderB, B
 use Rattle.format.specs.declared.Group.{Group}
 use Rattle.format.proofs.Checks.{judge, Pass, Holds, fieldChecks, lineChecks, field-passed}
 use Rattle.format.proofs.Reader.{State, begin}
-use Rattle.field.specs.Rows.{Row, row, cut, firstNo, fieldNo, rowsAt, checkRows, fieldsAt, firstOr}
+use Rattle.field.specs.Rows.{Row, row, cut, firstAnswer, fieldAnswer, rowsAt, checkRows, fieldsAt, firstOr}
 use Rattle.record.specs.declared.Fault.{Fault}
 use Rattle.record.specs.declared.Batch.{Batch}
 use Rattle.record.specs.Faults.{faultAt, noFault, firstFault, fieldsOf, testsFor, maximaFor, faultOf, groupSaid}
@@ -113,21 +113,21 @@ module _ (after : State) where
       let h = leb→le 1 n t in
       subst (λ b. Same (check false n c ∷ cs) (pick b (firstOr faultAt rows noFault) (faultAt c n))) (sym (ne-eqb n 0 (omega arith))) (stopped c n h refl)
 
-  same-tests : (c : ℕ) (ts : List Test) (cs : List Check) (rows : List Row) → T (answered ts) → Same cs (firstOr faultAt rows noFault) → Same (fieldChecks c ts cs) (firstOr faultAt (row c (firstNo ts) ∷ rows) noFault)
+  same-tests : (c : ℕ) (ts : List Test) (cs : List Check) (rows : List Row) → T (answered ts) → Same cs (firstOr faultAt rows noFault) → Same (fieldChecks c ts cs) (firstOr faultAt (row c (firstAnswer ts) ∷ rows) noFault)
   unfolding firstOr pick
   same-tests c [] cs rows t j = j
   same-tests c (test true n ∷ ts) cs rows t j = onward n c (same-tests c ts cs rows (and-r (leb 1 n) (answered ts) t) j)
   same-tests c (test false n ∷ ts) cs rows t j = refuses (fieldChecks c ts cs) rows n c (and-l (leb 1 n) (answered ts) t)
 
   same-field : (q : Bool) (c : ℕ) (ts : List Test) (cs : List Check) (rows : List Row) → T (answered ts) → Same cs (firstOr faultAt rows noFault)
-      → Same (check q 4 c ∷ fieldChecks c ts cs) (firstOr faultAt (row c (pick q (firstNo ts) 4) ∷ rows) noFault)
+      → Same (check q 4 c ∷ fieldChecks c ts cs) (firstOr faultAt (row c (pick q (firstAnswer ts) 4) ∷ rows) noFault)
   unfolding pick
   same-field true c ts cs rows t j = onward 4 c (same-tests c ts cs rows t j)
   same-field false c ts cs rows t j = refuses (fieldChecks c ts cs) rows 4 c tt
 
   same-fields : (c : ℕ) (fs : List Field) (t : Tests fs) (xs : List ℕ) (cs : List Check) (rows : List Row) → 1 ≤ c → T (allAnswered fs t) → Same cs (firstOr faultAt rows noFault)
       → Same (lineChecks c fs t (cut c (widths fs) xs) cs) (firstOr faultAt (rowsAt c fs t xs rows) noFault)
-  unfolding fieldNo
+  unfolding fieldAnswer
   same-fields c [] t xs cs rows h z j = j
   same-fields c (f ∷ fs) t xs cs rows h z j =
       let w = width f in

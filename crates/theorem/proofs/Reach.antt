@@ -22,7 +22,7 @@ use Rattle.record.specs.Read.{transactionFor}
 use Rattle.record.specs.declared.Batch.{Batch}
 use Rattle.record.specs.declared.Transaction as items
 use Rattle.reading.specs.State.{startState, within, Kept}
-use Rattle.reading.specs.Order.{stageNo, isStage, isName, mayOpen, mayFix, mayEnd, mayPay, mayName, textsBy, mayText, mayRefer, mayDescribe, allowed}
+use Rattle.reading.specs.Order.{stageNumber, isStage, isName, mayOpen, mayFix, mayEnd, mayPay, mayName, textsBy, mayText, mayRefer, mayDescribe, allowed}
 use Rattle.reading.specs.Step.{opened, withFixed, paid, named, texted, nextFor, nameIf, afterText, judgedFirst}
 use Rattle.reading.specs.declared.Stage.{Stage}
 use Rattle.reading.specs.declared.Stage.the-variants.{Start, Headed, Opened, Ordered, Item, Closed, Done}
@@ -92,7 +92,7 @@ reach-within s i = within-yes s (i .0) (reach-line s i)
 stages : List Stage
 stages = Start ∷ Headed ∷ Opened ∷ Ordered ∷ Item ∷ Closed ∷ Done ∷ []
 
-stage-at : (p : Stage) → getD stages (stageNo p) Done ≡ p
+stage-at : (p : Stage) → getD stages (stageNumber p) Done ≡ p
 unfolding stages
 stage-at Start = refl
 stage-at Headed = refl
@@ -103,7 +103,7 @@ stage-at Closed = refl
 stage-at Done = refl
 
 is-stage : (p q : Stage) → T (isStage p q) → p ≡ q
-is-stage p q t = sym (stage-at p) ∙ ap (λ n. getD stages n Done) (eqb→eq (stageNo p) (stageNo q) t) ∙ stage-at q
+is-stage p q t = sym (stage-at p) ∙ ap (λ n. getD stages n Done) (eqb→eq (stageNumber p) (stageNumber q) t) ∙ stage-at q
 
 is-due : (m : Name) → T (isName m Due) → nameLines m ≡ 0
 is-due Unwanted t = refl

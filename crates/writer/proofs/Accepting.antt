@@ -21,7 +21,7 @@ use Rattle.format.specs.declared.Code.{Code}
 use Rattle.format.specs.declared.Code.the-variants.{Of, Unknown}
 use Rattle.format.proofs.Checks.{Hold, Holds, read-field}
 use Rattle.format.proofs.Link.{line-widths}
-use Rattle.field.specs.Rows.{Row, cut, firstNo, fieldNo, rowsAt, checkRows, fieldsAt, firstOr}
+use Rattle.field.specs.Rows.{Row, cut, firstAnswer, fieldAnswer, rowsAt, checkRows, fieldsAt, firstOr}
 use Rattle.field.proofs.Numerics.{Numbered}
 use Rattle.record.specs.Kinds.{codeOf}
 use Rattle.record.specs.Faults.{faultAt, noFault, firstFault, fieldsOf, groupSaid, testsFor, maximaFor, faultOf}
@@ -41,7 +41,7 @@ use Rattle.writer.specs.Encoding.{lineEnd}
 
 -- ## Rows that all passed
 
-none-fails : (ts : List Test) → Numbered ts → firstNo ts ≡ 0 → Hold ts
+none-fails : (ts : List Test) → Numbered ts → firstAnswer ts ≡ 0 → Hold ts
 unfolding pick
 none-fails [] n z = tt
 none-fails (test true a ∷ ts) n z = (tt, none-fails ts (n .1) z)
@@ -63,7 +63,7 @@ faultless c [] t xs k p h n z = record { fits = tt; holds = tt; is = refl }
 faultless c (f ∷ fs) t xs k p h n z = by (eqb no 0) refl (faultless (c + width f) fs (t .1) xs k (omega arith) (omega arith) (n .1)) z
   where
     no : ℕ
-    no = fieldNo f (t .0) (cut c (width f) xs)
+    no = fieldAnswer f (t .0) (cut c (width f) xs)
 
     rest : Fault
     rest = firstOr faultAt (rowsAt (c + width f) fs (t .1) xs k) noFault

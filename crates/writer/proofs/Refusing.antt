@@ -16,7 +16,7 @@ use Rattle.format.specs.Tests.{Test, Tests}
 use Rattle.format.specs.declared.Code.{Code}
 use Rattle.format.specs.declared.Code.the-variants.{Of, Unknown}
 use Rattle.format.proofs.Link.{line-widths}
-use Rattle.field.specs.Rows.{Row, cut, firstNo, fieldNo, rowsAt, checkRows, firstOr}
+use Rattle.field.specs.Rows.{Row, cut, firstAnswer, fieldAnswer, rowsAt, checkRows, firstOr}
 use Rattle.record.specs.Kinds.{codeOf}
 use Rattle.record.specs.Faults.{faultAt, noFault, firstFault, fieldsOf, testsFor, maximaFor, faultOf}
 use Rattle.record.specs.declared.Fault.{Fault}
@@ -41,11 +41,11 @@ use Rattle.writer.proofs.Back.{Sized, AllSized, field-long, field-back,
 -- ## Rows
 
 -- what is well formed carries what was given
-unfit-no : (f : Field) (ts : List Test) (g : Given f) → Sized f g → isUnfit f g ≡ true → fieldNo f ts (encodeField f g) ≡ 4
-unfolding fieldNo pick
+unfit-no : (f : Field) (ts : List Test) (g : Given f) → Sized f g → isUnfit f g ≡ true → fieldAnswer f ts (encodeField f g) ≡ 4
+unfolding fieldAnswer pick
 unfit-no f ts g h u = by (wellFormed f (encodeField f g)) refl
   where
-    by : (q : Bool) → wellFormed f (encodeField f g) ≡ q → pick q (firstNo ts) 4 ≡ 4
+    by : (q : Bool) → wellFormed f (encodeField f g) ≡ q → pick q (firstAnswer ts) 4 ≡ 4
     by true e = absurd (true≢false (sym u ∙ field-back f g h (of-eq _ e) .0))
     by false e = refl
 
@@ -87,7 +87,7 @@ rows-unfit c (f ∷ fs) t g xs k h p e z =
     by (isUnfit f (g .0)) refl (eqb no 0) refl a (rows-unfit (c + width f) fs (t .1) (g .1) xs k (h .1) (omega arith) b) z
   where
     no : ℕ
-    no = fieldNo f (t .0) (cut c (width f) xs)
+    no = fieldAnswer f (t .0) (cut c (width f) xs)
 
     later : ℕ
     later = unfitFrom (c + width f) fs (g .1)
@@ -99,7 +99,7 @@ rows-unfit c (f ∷ fs) t g xs k h p e z =
     some-no y n = subst T (sym (eq-eqb no 0 n) ∙ y) tt
 
     four : isUnfit f (g .0) ≡ true → cut c (width f) xs ≡ encodeField f (g .0) → no ≡ 4
-    four u a = ap (fieldNo f (t .0)) a ∙ unfit-no f (t .0) (g .0) (h .0) u
+    four u a = ap (fieldAnswer f (t .0)) a ∙ unfit-no f (t .0) (g .0) (h .0) u
 
     by : (u : Bool) → isUnfit f (g .0) ≡ u → (v : Bool) → eqb no 0 ≡ v → cut c (width f) xs ≡ encodeField f (g .0) → ((later ≡ 0 → ⊥) → Stopped later (rest .number) (rest .column)) → (pick u c later ≡ 0 → ⊥)
         → Stopped (pick u c later) (pick v rest (faultAt c no) .number) (pick v rest (faultAt c no) .column)
