@@ -23,7 +23,7 @@ use Rattle.items.specs.Search.{noFields, started, afterRows}
 use Rattle.items.specs.Answering.{told, isFound, answeredBy, roomBy, itemOf, roomAfter}
 use Rattle.items.specs.Promises.{Promised, ItemAt, handedOut, roomWith, textsFor, itemAt}
 use Rattle.items.specs.declared.ItemRead.{ItemRead}
-use Rattle.clieop_c.specs.Places.{numberOf, typeNumber, itemAsked, itemPlace, textsWith, textsBy, itemTexts, ItemPromised}
+use Rattle.clieop_c.specs.Places.{numberOf, typeNumber, itemAsked, itemPlace, textsWith, textsBy, itemTexts, describedRoom, ItemPromised}
 
 -- ## The type
 
@@ -69,6 +69,27 @@ pub room-of-one : {r : ItemRead} (file : List ℕ) (batch item : ℕ) → r ≡ 
 unfolding itemOf answeredBy
 room-of-one file batch item h = h
 
+-- of a room too small for the descriptions no more is promised than of none
+none-handed : (lines : ℕ) (x : Option ItemAt) → handedOut lines x 1 ≡ handedOut lines x 0
+unfolding pick
+none-handed lines none = refl
+none-handed lines (some x) = refl
+
+none-written : (x : Option ItemAt) → [] ≡ roomWith x []
+unfolding pick
+none-written none = refl
+none-written (some x) = refl
+
+pub promised-of-one : {r : ItemRead} {c : ℕ} {after : List ℕ} (file : List ℕ) (batch item : ℕ) → Promised file batch item (c ∷ []) r after → Promised file batch item [] r []
+promised-of-one {r} file batch item p =
+    record {
+      handed = λ f h. p .handed f h ∙ none-handed (r .line) (itemAt f batch item);
+      written = λ f h. none-written (itemAt f batch item);
+      lines = p .lines;
+      refusal = p .refusal;
+      untouched = λ h. refl;
+    }
+
 lacking : (a : Answer) (q b : Bool) → eqb (a .number) 0 ≡ b
     → pick b (pick q (told 12 (a .line) 0 noFields) (told 13 (a .line) 0 noFields)) (told (a .number) (a .line) (a .column) noFields) .answer ≡ 0 → ⊥
 unfolding pick
@@ -101,14 +122,19 @@ module _ {r : ItemRead} (file : List ℕ) (batch item places : ℕ) (e : r ≡ i
   pub texts-unroomed : (texts : List ℕ) → 6 ≤ places → length texts < 168 → texts ≡ itemTexts file batch item texts places
   texts-unroomed texts h k = untexted texts (asked-unroomed (length texts) h k)
 
-module _ (file : List ℕ) (batch item : ℕ) (texts after : List ℕ) (places : ℕ) where
-  pub unplaced-unasked : places < 6 → ItemPromised file batch item texts places after
-  unplaced-unasked h k l = absurd (omega arith)
+module _ {r : ItemRead} (file : List ℕ) (batch item : ℕ) (texts : List ℕ) (places : ℕ) (e : r ≡ itemOf file batch item 0) (p : Promised file batch item [] r []) where
+  lacking-promised : r ≡ itemAsked file batch item (length texts) places → describedRoom texts places ≡ [] → ItemPromised file batch item texts places texts
+  lacking-promised g d = subst (λ x. Promised file batch item x (itemAsked file batch item (length texts) places) x) (sym d) (subst (λ y. Promised file batch item [] y []) g p)
 
-  pub unroomed-unasked : length texts < 168 → ItemPromised file batch item texts places after
-  unroomed-unasked h k l = absurd (omega arith)
+  pub unplaced-promised : places < 6 → ItemPromised file batch item texts places texts
+  unfolding describedRoom pick
+  unplaced-promised h = lacking-promised (asked-unplaced file batch item places e (length texts) h) (rw (lt-leb 6 places h) refl)
 
-pub ruleset lackings = (asked-unplaced, asked-unroomed, texts-unplaced, texts-unroomed, unplaced-unasked, unroomed-unasked, needs)
+  pub unroomed-promised : 6 ≤ places → length texts < 168 → ItemPromised file batch item texts places texts
+  unfolding describedRoom pick
+  unroomed-promised h k = lacking-promised (asked-unroomed file batch item places e (length texts) h k) (rw (le-leb 6 places h, lt-leb 168 (length texts) k) refl)
+
+pub ruleset lackings = (asked-unplaced, asked-unroomed, texts-unplaced, texts-unroomed, unplaced-promised, unroomed-promised, needs)
 
 -- ## With room
 
@@ -180,14 +206,22 @@ module _ (out : List ℕ) (l : 128 ≤ length out) where
         untouched = λ h. ap (take 128) (p .untouched h);
       }
 
-module _ {r : ItemRead} {t : List ℕ} (file : List ℕ) (batch item : ℕ) (texts : List ℕ) (places : ℕ) (e : r ≡ itemOf file batch item (length texts)) (k : length t ≡ length texts) (p : Promised file batch item texts r t) where
-  pub promised-refused : ItemPromised file batch item texts places t
-  promised-refused h l = subst (λ y. Promised file batch item (take 128 texts) y (take 128 t)) (asked file batch item texts h l e) (first-promised texts (omega arith) k p)
+room-all : (x : List ℕ) (places : ℕ) → 6 ≤ places → 168 ≤ length x → describedRoom x places ≡ take 128 x
+unfolding describedRoom pick
+room-all x places h l = rw (le-leb 6 places h, le-leb 168 (length x) l) refl
 
-  pub promised-handed : {u : List ℕ} → u ≡ textsWith (r .fields .reference) (r .fields .name) t → ItemPromised file batch item texts places u
-  promised-handed f h l =
-      subst (λ y. Promised file batch item (take 128 texts) (itemAsked file batch item (length texts) places) y)
-      (sym (ap (take 128) f ∙ texts-first (r .fields .reference) (r .fields .name) t (omega (arith, k)))) (promised-refused h l)
+module _ {r : ItemRead} {t : List ℕ} (file : List ℕ) (batch item : ℕ) (texts : List ℕ) (places : ℕ) (e : r ≡ itemOf file batch item (length texts)) (k : length t ≡ length texts) (p : Promised file batch item texts r t) where
+  first-asked : (o : List ℕ) → 6 ≤ places → 168 ≤ length texts → length o ≡ length texts → take 128 o ≡ take 128 t → ItemPromised file batch item texts places o
+  first-asked o h l n d =
+      subst (λ x. Promised file batch item x (itemAsked file batch item (length texts) places) (describedRoom o places)) (sym (room-all texts places h l))
+      (subst (λ x. Promised file batch item (take 128 texts) (itemAsked file batch item (length texts) places) x) (sym (room-all o places h (omega (arith, l, n)) ∙ d))
+      (subst (λ y. Promised file batch item (take 128 texts) y (take 128 t)) (asked file batch item texts h l e) (first-promised texts (omega arith) k p)))
+
+  pub promised-refused : 6 ≤ places → 168 ≤ length texts → ItemPromised file batch item texts places t
+  promised-refused h l = first-asked t h l k refl
+
+  pub promised-handed : (u : List ℕ) → 6 ≤ places → 168 ≤ length texts → length u ≡ length t → u ≡ textsWith (r .fields .reference) (r .fields .name) t → ItemPromised file batch item texts places u
+  promised-handed u h l n f = first-asked u h l (n ∙ k) (ap (take 128) f ∙ texts-first (r .fields .reference) (r .fields .name) t (omega (arith, k)))
 
 -- ## The whole
 

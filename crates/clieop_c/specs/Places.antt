@@ -1,6 +1,6 @@
 -- What the functions for other languages return, and what they leave in the numbers and bytes lent to them.
-use Prim.Native.Nat.{ℕ, _≤_}
-use mathlib.Core.List.{List, _∷_, _++_}
+use Prim.Native.Nat.{ℕ}
+use mathlib.Core.List.{List, [], _∷_, _++_}
 use mathlib.Core.Bool.{Bool, false}
 use lib.ListN.{length, take, drop}
 use lib.Dec.{leb, eqb}
@@ -73,7 +73,11 @@ textsBy r texts described = pick (eqb (r .answer) accepted) (textsWith (r .field
 unfoldable pub itemTexts : List ℕ → ℕ → ℕ → List ℕ → ℕ → List ℕ
 itemTexts file batch item texts places = textsBy (itemAsked file batch item (length texts) places) texts (descriptionsAfter file batch item texts)
 
--- with room for everything: what `items::item` promises, with the first 128 bytes as its room
+-- the room for descriptions: the first 128 bytes, and none where there is no room for everything
+unfoldable pub describedRoom : List ℕ → ℕ → List ℕ
+describedRoom texts places = pick (leb 6 places) (pick (leb 168 (length texts)) (take 128 texts) []) []
+
+-- what `items::item` promises, with that room
 abbrev pub ItemPromised : List ℕ → ℕ → ℕ → List ℕ → ℕ → List ℕ → Type 0
 ItemPromised file batch item texts places after =
-    6 ≤ places → 168 ≤ length texts → Promised file batch item (take 128 texts) (itemAsked file batch item (length texts) places) (take 128 after)
+    Promised file batch item (describedRoom texts places) (itemAsked file batch item (length texts) places) (describedRoom after places)

@@ -2,7 +2,9 @@
 ghost use mathlib.Core.Path.{_≡_};
 ghost use Prim.Native.Nat.{_≤_};
 ghost use lib.ListN.{length};
+ghost use mathlib.Core.List.{[]};
 ghost use Rattle.items.specs.Answering.{itemOf};
+ghost use Rattle.items.specs.Promises.{Promised};
 ghost use Rattle.clieop_c.specs.Places.{typeNumber, numberOf, itemAsked, itemPlace, textsWith, itemTexts, ItemPromised};
 use crate::put_numbers;
 use field::bytes::put;
@@ -66,7 +68,8 @@ fn put_texts(reference: [u8; 16], name: [u8; 24], texts: &mut [u8])
 
 // What is answered without room for the item.
 fn without_room(file: &[u8], batch: u64, item: u64) -> ItemRead
-    ensures { λ r. ⌜ r ≡ itemOf (now (file .entry)) batch item 0 ⌝ }
+    ensures answer { λ r. ⌜ r ≡ itemOf (now (file .entry)) batch item 0 ⌝ }
+    ensures meaning { λ r. ⌜ Promised (now (file .entry)) batch item [] r [] ⌝ }
 {
     let mut room = [0u8; 1];
     items::item(file, batch, item, &mut room)
@@ -95,7 +98,7 @@ fn with_texts(file: &[u8], batch: u64, item: u64, texts: &mut [u8], places: usiz
 }
 
 // Item `item` of batch `batch`, each from 1: line, column, type, amount, payer and beneficiary to the first six of `place`; the four
-// descriptions, the reference and the name to the first 168 bytes of `texts`. What `items::item` promises of the descriptions holds of the first 128.
+// descriptions, the reference and the name to the first 168 bytes of `texts`. What `items::item` promises holds with the first 128 as its room.
 #[no_mangle]
 pub extern "C" fn clieop_item(
     file: &[u8],

@@ -1,5 +1,5 @@
 use borrow.Author.Needs.{needs}
-use Rattle.clieop_c.proofs.Handing.{room-of-one}
+use Rattle.clieop_c.proofs.Handing.{room-of-one, promised-of-one}
 use Rattle.clieop_c.proofs.item.without_room.Statement.{statement}
 use Rattle.clieop_c.proofs.item.without_room.Tie as tie
 
@@ -9,5 +9,5 @@ without-room-spec =
     (tie.spec
     (λ c. search needs)  -- slice-aggregate-item
     (λ c κs. search needs)  -- item-requires
-    (λ c. search (room-of-one, needs) depth 20 fits 10000)  -- returns
+    (λ c. (search (room-of-one, needs) depth 20 fits 10000, search (promised-of-one, needs) depth 20 fits 10000))  -- returns
     )
