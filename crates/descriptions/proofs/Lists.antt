@@ -35,9 +35,6 @@ texts-back (t ∷ ts) l h =
 pub texts-of-places : (room : List ℕ) (ts : List (List ℕ)) → Full ts → length ts ≤ 4 → textsOf (inPlaces room ts) ≡ ts
 texts-of-places room ts h k = ap (λ n. textsIn n (joined ts ++ drop (32 * length ts) room)) (least-left (length ts) 4 k) ∙ texts-back ts (drop (32 * length ts) room) h
 
-pub none-places : noTexts ≡ inPlaces (spaces 128) []
-none-places = refl
-
 pub with-places : (room : List ℕ) (ts : List (List ℕ)) (t : List ℕ) → Full ts → length ts < 4 → withText (inPlaces room ts) t ≡ inPlaces room (ts ++ (textFrom t ∷ []))
 unfolding withText pick
 with-places room ts t h k =

@@ -4,7 +4,6 @@ ghost use mathlib.Core.List.{_++_};
 ghost use Prim.Native.Nat.{_+_, _*_, _≤_};
 ghost use lib.ListN.{take, drop};
 ghost use Rattle.machine.specs.Lists.{spaces};
-ghost use Rattle.format.specs.Rules.{mostDescriptions};
 ghost use Rattle.descriptions.specs.Texts.{least, noTexts, merged, withText};
 use field::bytes::part;
 use field::bytes::put;
@@ -13,16 +12,6 @@ use field::bytes::put;
 pub struct Descriptions {
     pub text: [u8; 128],
     pub count: u64,
-}
-
-// An item has three with a reference, four without.
-pub fn limit_for(reference: bool) -> u64
-    ensures { λ r. ⌜ r ≡ mostDescriptions reference ⌝ }
-{
-    if reference {
-        return 3;
-    }
-    4
 }
 
 fn least_of(a: u64, b: u64) -> u64

@@ -1,4 +1,6 @@
-// The names of document 01 that code and definitions share: the kinds of record, the groups and the transaction types.
+// The names of document 01 that code and definitions share: the kinds of record, the groups, the transaction types, the answers and limits.
+ghost use mathlib.Core.Path.{_≡_};
+ghost use Rattle.format.specs.Rules.{mostDescriptions};
 
 // A record's code and variant (01, 'Record table').
 pub enum Kind {
@@ -79,3 +81,13 @@ pub const BEYOND_LIMITS: u8 = 24;
 
 // Ten digits.
 pub const MAX_ACCOUNT: u64 = 9999999999;
+
+// How many descriptions an item may have, by whether it has a reference.
+pub fn most_descriptions(reference: bool) -> u64
+    ensures { λ r. ⌜ r ≡ mostDescriptions reference ⌝ }
+{
+    if reference {
+        return 3;
+    }
+    4
+}

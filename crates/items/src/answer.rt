@@ -8,7 +8,6 @@ use crate::Found;
 use crate::ItemRead;
 use crate::Search;
 use crate::no_fields;
-use descriptions::limit_for;
 use descriptions::merge;
 use field::bytes::put;
 use format::TypeRead;
@@ -42,7 +41,7 @@ impl Found {
     {
         let fixed = self.fixed;
         let own = self.own;
-        let merged = merge(fixed, own, limit_for(self.referred));
+        let merged = merge(fixed, own, format::most_descriptions(self.referred));
         merged.text
     }
 }

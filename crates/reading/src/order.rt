@@ -1,6 +1,5 @@
 // The order of records: which kind may stand in a state.
 ghost use mathlib.Core.Path.{_≡_};
-ghost use Rattle.format.specs.Rules.{mostDescriptions};
 ghost use Rattle.reading.specs.Order.{stageNumber, isStage, nameNumber, isName, mayOpen, mayFix, mayEnd, mayPay, mayName, textsBy, mayText, mayRefer, mayDescribe, allowed};
 use crate::Name;
 use crate::Stage;
@@ -97,16 +96,10 @@ fn may_refer(p: Stage, g: Group, n: Name, reference: bool, descriptions: u64) ->
     may_text(p, g, n) & (!reference & (descriptions == 0))
 }
 
-fn room_for(reference: bool) -> u64
-    ensures { λ r. ⌜ r ≡ mostDescriptions reference ⌝ }
-{
-    if reference { 3 } else { 4 }
-}
-
 fn may_describe(p: Stage, g: Group, n: Name, reference: bool, descriptions: u64) -> bool
     ensures { λ r. ⌜ r ≡ mayDescribe p g n reference descriptions ⌝ }
 {
-    may_text(p, g, n) & (descriptions < room_for(reference))
+    may_text(p, g, n) & (descriptions < format::most_descriptions(reference))
 }
 
 impl State {
