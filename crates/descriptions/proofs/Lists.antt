@@ -7,7 +7,7 @@ use borrow.Author.Tests.{lt-ltb}
 use lib.ListN.{length, take, drop, length-append}
 use lib.Seq.{take-at, drop-at, drop-append-add, drop-drop}
 use Rattle.machine.specs.Lists.{pick, spaces}
-use Rattle.descriptions.specs.Texts.{textsIn, textsOf, joined, mergeOf, inPlaces, noTexts, merged, textFrom, withText}
+use Rattle.descriptions.specs.Texts.{textsIn, textsOf, joined, mergeOf, inPlaces, merged, textFrom, withText}
 use Rattle.descriptions.proofs.Merging.{least-left}
 use Rattle.descriptions.proofs.Adding.{text-long}
 

@@ -4,7 +4,6 @@ ghost use mathlib.Core.Bool.{true};
 ghost use Prim.Native.Nat.{_≤_};
 ghost use lib.ListN.{length, take, drop};
 ghost use Rattle.machine.specs.Lists.{all, isDigit};
-ghost use Rattle.machine.specs.Digits.{valueOf};
 ghost use Rattle.format.specs.Rules.{maxAccount, isOrderingAccount, isAccount};
 ghost use Rattle.field.specs.Leaf.{TenDigits, weighedSum, numericOf, rangeTests, orderingTests, partyTests};
 use crate::bytes::part;

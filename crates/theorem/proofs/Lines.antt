@@ -28,7 +28,7 @@ use Rattle.format.proofs.Reader.{Room, fresh, left, Phase, opened, paying, owed
 use Rattle.format.proofs.Reader as the
 use Rattle.format.proofs.Link.{find-code, not-ended, line-widths, step-in, step-out, kindOf-code}
 use Rattle.field.specs.Rows.{cut}
-use Rattle.record.specs.Kinds.{codeOf, debitCode, batchCode, fileCode}
+use Rattle.record.specs.Kinds.{codeOf}
 use Rattle.record.specs.Faults.{fieldsOf, testsFor, maximaFor, faultOf}
 use Rattle.record.specs.Read.{typeOr, transactionFor}
 use Rattle.record.specs.declared.Batch.{Batch}
