@@ -3,7 +3,6 @@
 use field::bytes::is_digits;
 use field::bytes::part;
 use field::numbers::Digits;
-use format::TransactionType;
 use format::TypeRead;
 use items::ItemFields;
 use items::ItemRead;
@@ -16,6 +15,7 @@ use page::put_line;
 use page::put_number;
 use reading::Answer;
 use reading::State;
+use record::types::type_text;
 
 // A file so far: the answer to the last line, and the state after it.
 struct Checked {
@@ -29,17 +29,6 @@ struct Sought {
     search: Search,
     more: bool,
     failed: bool,
-}
-
-fn put_type(page: &mut [u8], at: usize, kind: TransactionType) -> usize {
-    match kind {
-        TransactionType::UncheckedCreditor => put_line(page, at, b"type=", b"0000"),
-        TransactionType::UncheckedSalary => put_line(page, at, b"type=", b"0003"),
-        TransactionType::Creditor => put_line(page, at, b"type=", b"0005"),
-        TransactionType::Salary => put_line(page, at, b"type=", b"0008"),
-        TransactionType::Debit => put_line(page, at, b"type=", b"1001"),
-        TransactionType::UncheckedDebit => put_line(page, at, b"type=", b"1002"),
-    }
 }
 
 fn put_numbers(page: &mut [u8], at: usize, fields: ItemFields) -> usize {
@@ -67,7 +56,7 @@ fn put_item(page: &mut [u8], at: usize, fields: ItemFields, texts: &[u8]) -> usi
     let kind = fields.kind;
     match kind {
         TypeRead::Of(t) => {
-            let a = put_type(page, at, t);
+            let a = put_line(page, at, b"type=", &type_text(t));
             let b = put_numbers(page, a, fields);
             let c = put_texts(page, b, fields);
             put_descriptions(page, c, texts)

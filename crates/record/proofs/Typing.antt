@@ -23,9 +23,6 @@ of-case f e h = rw e h
 pub same-case : {a b g h : Group} {x : Bool} → a ≡ g → b ≡ h → x ≡ sameGroup g h → x ≡ sameGroup a b
 same-case e f h = rw (e, f) h
 
-pub text-via : {g h : Group} {x : Bool} (l : List ℕ) → g ≡ h → x ≡ same l (groupText h) → x ≡ same l (groupText g)
-text-via l e p = rw e p
-
 -- a group, and the one so far where that is said
 abbrev groupAnswer : Bool → Group → List ℕ → ℕ
 groupAnswer said g l = firstAnswer (test (isGroup l) wrongValue ∷ groupTests (groupSaid said g) l)
@@ -44,9 +41,9 @@ module _ {p : List ℕ} {a : Bool} (l : List ℕ) (d : p ≡ l) (e : a ≡ isGro
       unfolding pick
       group-free k = rw (is-group h, k)
 
-      module _ {b : Bool} (k : said ≡ true) (f : b ≡ same p (groupText g)) where
+      module _ {b : Bool} {t : List ℕ} (k : said ≡ true) (q : t ≡ groupText g) (f : b ≡ same p t) where
         is-text : {v : Bool} → b ≡ v → same l (groupText g) ≡ v
-        is-text u = rw (← d) (sym f ∙ u)
+        is-text u = rw (← d, ← q) (sym f ∙ u)
 
         pub group-right : b ≡ true → 0 ≡ groupAnswer said g l
         unfolding pick

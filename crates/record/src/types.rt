@@ -2,10 +2,9 @@
 ghost use mathlib.Core.Path.{_≡_};
 ghost use mathlib.Core.List.{_∷_};
 ghost use lib.ListN.{take, drop};
-ghost use Rattle.machine.specs.Lists.{same};
 ghost use Rattle.format.specs.Fields.{filled};
 ghost use Rattle.format.specs.Answers.{wrongValue};
-ghost use Rattle.format.specs.Rules.{groupText, isGroup, groupOf, sameGroup, typeOf, typeGroup, isUnchecked};
+ghost use Rattle.format.specs.Rules.{groupText, isGroup, groupOf, sameGroup, typeText, typeOf, typeGroup, isUnchecked};
 ghost use Rattle.format.specs.Tests.{test, groupTests, typeTests};
 ghost use Rattle.field.specs.Rows.{firstAnswer, fieldAnswer};
 ghost use Rattle.record.specs.Faults.{groupSaid};
@@ -51,12 +50,12 @@ fn is_group(s: &[u8]) -> bool
     is_same(s, b"10")
 }
 
-fn is_text_of(s: &[u8], group: Group) -> bool
-    ensures { λ r. ⌜ r ≡ same (now (s .entry)) (groupText group) ⌝ }
+pub fn group_text(group: Group) -> [u8; 2]
+    ensures { λ r. ⌜ r ≡ groupText group ⌝ }
 {
     match group {
-        Group::Payments => is_same(s, b"00"),
-        Group::Debits => is_same(s, b"10"),
+        Group::Payments => *b"00",
+        Group::Debits => *b"10",
     }
 }
 
@@ -71,7 +70,7 @@ pub(crate) fn group_answer(line: &[u8], said: bool, group: Group) -> u8
     let s = part(line, 5, 2);
     if is_group(s) {
         if said {
-            if is_text_of(s, group) {
+            if is_same(s, &group_text(group)) {
                 0
             } else {
                 format::DIFFERS
@@ -81,6 +80,19 @@ pub(crate) fn group_answer(line: &[u8], said: bool, group: Group) -> u8
         }
     } else {
         format::WRONG_VALUE
+    }
+}
+
+pub fn type_text(kind: TransactionType) -> [u8; 4]
+    ensures { λ r. ⌜ r ≡ typeText kind ⌝ }
+{
+    match kind {
+        TransactionType::UncheckedCreditor => *b"0000",
+        TransactionType::UncheckedSalary => *b"0003",
+        TransactionType::Creditor => *b"0005",
+        TransactionType::Salary => *b"0008",
+        TransactionType::Debit => *b"1001",
+        TransactionType::UncheckedDebit => *b"1002",
     }
 }
 

@@ -12,9 +12,6 @@ use lib.Dec.{eqb, ltb}
 use Rattle.machine.specs.Lists.{pick, all, isSpace, putIn}
 use Rattle.machine.specs.Digits.{pow10, decimal}
 use Rattle.machine.proofs.Digits.{length-decimal, decimal-last}
-use Rattle.format.specs.Rules.{groupText, typeText}
-use Rattle.format.specs.declared.Group.{Group}
-use Rattle.format.specs.declared.TransactionType.{TransactionType}
 use Rattle.writer.specs.Encoding.{unfit, numberIn, textIn, testText}
 
 -- ## Whether a number has so many digits
@@ -34,10 +31,12 @@ within-all b rest (suc i) e k = absurd (omega arith)
 
 pub ruleset counts = (within-more, within-all, needs)
 
--- ## What a field cannot carry
+-- ## Texts as they are given
 
-pub part-put : {s x : List ℕ} (line : List ℕ) (at w : ℕ) (l : List ℕ) → s ≡ take w l → x ≡ putIn line at s → x ≡ putIn line at (take w l)
-part-put line at w l e h = h ∙ ap (putIn line at) e
+pub given-text : {s t x : List ℕ} (line : List ℕ) (at : ℕ) → s ≡ t → x ≡ putIn line at s → x ≡ putIn line at t
+given-text line at e h = h ∙ ap (putIn line at) e
+
+-- ## What a field cannot carry
 
 module _ {x : List ℕ} (line : List ℕ) (at w : ℕ) where
   pub number-fits : {b : Bool} {d s : List ℕ} (n : ℕ) → w ≤ 20 → b ≡ ltb n (pow10 w) → b ≡ true → d ≡ decimal 20 n → s ≡ take w (drop (20 - w) d) → x ≡ putIn line at s → x ≡ putIn line at (numberIn w n)
@@ -63,17 +62,9 @@ module _ {x p : List ℕ} {b : Bool} (line : List ℕ) (at w : ℕ) (t : List �
   unfolding textIn pick
   text-unfit k h = rw (beyond w t d e, k) h
 
-pub ruleset carries = (number-fits, number-unfit, text-fits, text-unfit, part-put, needs)
+pub ruleset carries = (number-fits, number-unfit, text-fits, text-unfit, needs)
 
--- ## Groups, types and test codes
-
-pub group-via : {g m : Group} {x : List ℕ} (l : List ℕ) → g ≡ m → x ≡ putIn l 5 (groupText m) → x ≡ putIn l 5 (groupText g)
-group-via l e h = h ∙ ap (λ u. putIn l 5 (groupText u)) (sym e)
-
-pub type-via : {k m : TransactionType} {x : List ℕ} (l : List ℕ) → k ≡ m → x ≡ putIn l 5 (typeText m) → x ≡ putIn l 5 (typeText k)
-type-via l e h = h ∙ ap (λ u. putIn l 5 (typeText u)) (sym e)
+-- ## Test codes
 
 pub test-via : {b c : Bool} {x : List ℕ} (l : List ℕ) → b ≡ c → x ≡ putIn l 47 (testText c) → x ≡ putIn l 47 (testText b)
 test-via l e h = h ∙ ap (λ u. putIn l 47 (testText u)) (sym e)
-
-pub ruleset texts = (group-via, type-via, test-via, needs)

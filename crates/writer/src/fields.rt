@@ -12,6 +12,8 @@ use field::bytes::put;
 use field::numbers::spelt;
 use format::Group;
 use format::TransactionType;
+use record::types::group_text;
+use record::types::type_text;
 
 pub(crate) fn put_bytes(line: [u8; 52], at: usize, text: &[u8]) -> [u8; 52]
     ensures { λ r. ⌜ r ≡ putIn line at (now (text .entry)) ⌝ }
@@ -79,23 +81,13 @@ pub(crate) fn put_blank(line: [u8; 52], at: usize, width: usize, text: &[u8]) ->
 pub(crate) fn put_group(line: [u8; 52], group: Group) -> [u8; 52]
     ensures { λ r. ⌜ r ≡ putIn line 5 (groupText group) ⌝ }
 {
-    match group {
-        Group::Payments => put_bytes(line, 5, b"00"),
-        Group::Debits => put_bytes(line, 5, b"10"),
-    }
+    put_bytes(line, 5, &group_text(group))
 }
 
 pub(crate) fn put_type(line: [u8; 52], kind: TransactionType) -> [u8; 52]
     ensures { λ r. ⌜ r ≡ putIn line 5 (typeText kind) ⌝ }
 {
-    match kind {
-        TransactionType::UncheckedCreditor => put_bytes(line, 5, b"0000"),
-        TransactionType::UncheckedSalary => put_bytes(line, 5, b"0003"),
-        TransactionType::Creditor => put_bytes(line, 5, b"0005"),
-        TransactionType::Salary => put_bytes(line, 5, b"0008"),
-        TransactionType::Debit => put_bytes(line, 5, b"1001"),
-        TransactionType::UncheckedDebit => put_bytes(line, 5, b"1002"),
-    }
+    put_bytes(line, 5, &type_text(kind))
 }
 
 pub(crate) fn put_test(line: [u8; 52], test: bool) -> [u8; 52]

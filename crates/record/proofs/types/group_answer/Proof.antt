@@ -12,7 +12,9 @@ group-answer-spec =
     (λ c. search form-stop depth 20 fits 10000)  -- returns
     (λ c κs. search needs)  -- part-requires
     (λ c κs. search needs)  -- is-group-requires
-    (λ c κs. search needs)  -- is-text-of-requires
+    (λ c κs. search needs)  -- group-text-requires
+    (λ c. search needs)  -- slice-aggregate-is-same
+    (λ c κs. search needs)  -- is-same-requires
     (λ c. search (form-on, group-right) depth 20 fits 10000)  -- returns-2
     (λ c. search (form-on, group-other) depth 20 fits 10000)  -- returns-3
     (λ c. search (form-on, group-free) depth 20 fits 10000)  -- returns-4

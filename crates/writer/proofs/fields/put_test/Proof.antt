@@ -1,5 +1,5 @@
 use borrow.Author.Needs.{needs}
-use Rattle.writer.proofs.Putting.{texts}
+use Rattle.writer.proofs.Putting.{test-via}
 use Rattle.writer.proofs.fields.put_test.Statement.{statement}
 use Rattle.writer.proofs.fields.put_test.Tie as tie
 
@@ -9,8 +9,8 @@ put-test-spec =
     (tie.spec
     (λ c. search needs)  -- slice-aggregate-put-bytes
     (λ c κs. search needs)  -- put-bytes-requires
-    (λ c. search texts depth 20 fits 10000)  -- returns
+    (λ c. search test-via)  -- returns
     (λ c. search needs)  -- slice-aggregate-put-bytes-2
     (λ c κs. search needs)  -- put-bytes-requires-2
-    (λ c. search texts depth 20 fits 10000)  -- returns-2
+    (λ c. search test-via)  -- returns-2
     )

@@ -1,5 +1,5 @@
 use borrow.Author.Needs.{needs}
-use Rattle.writer.proofs.Putting.{carries}
+use Rattle.writer.proofs.Putting.{given-text}
 use Rattle.writer.proofs.fields.put_unfit.Statement.{statement}
 use Rattle.writer.proofs.fields.put_unfit.Tie as tie
 
@@ -10,5 +10,5 @@ put-unfit-spec =
     (λ c. search needs)  -- slice-aggregate-part
     (λ c κs. search needs)  -- part-requires
     (λ c κs. search needs)  -- put-bytes-requires
-    (λ c. search carries depth 20 fits 10000)  -- returns
+    (λ c. search given-text)  -- returns
     )
