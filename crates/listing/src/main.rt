@@ -1,5 +1,6 @@
 // Prints the listing of each file that its arguments name, or of standard input: its header, each closed batch, and the answer.
 use field::bytes::part;
+use format::Group;
 use libc::STDOUT_FILENO;
 use page::put_answer;
 use page::put_input;
@@ -36,12 +37,16 @@ fn put_header(
     put_number(page, d, b"duplicate=", duplicate, 1)
 }
 
+fn put_group(page: &mut [u8], at: usize, group: Group) -> usize {
+    put_line(page, at, b"group=", &group_text(group))
+}
+
 // The batch that a state is in.
 fn put_batch(page: &mut [u8], at: usize, state: State) -> usize {
     let batch = state.batch;
     let group = state.group;
     let a = put_number(page, at, b"batch=", batch.sequence, 4);
-    let b = put_line(page, a, b"group=", &group_text(group));
+    let b = put_group(page, a, group);
     let c = put_number(page, b, b"account=", batch.account, 10);
     let d = put_number(page, c, b"items=", batch.items, 1);
     let e = put_number(page, d, b"amount=", batch.total, 1);
