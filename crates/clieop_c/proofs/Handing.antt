@@ -69,11 +69,10 @@ pub room-of-one : {r : ItemRead} (file : List ℕ) (batch item : ℕ) → r ≡ 
 unfolding itemOf answeredBy
 room-of-one file batch item h = h
 
--- of a room too small for the descriptions no more is promised than of none
-none-handed : (lines : ℕ) (x : Option ItemAt) → handedOut lines x 1 ≡ handedOut lines x 0
-unfolding pick
-none-handed lines none = refl
-none-handed lines (some x) = refl
+-- what is handed out goes by whether the room is large enough
+same-handed : (lines : ℕ) (x : Option ItemAt) (a b : ℕ) → leb 128 a ≡ leb 128 b → handedOut lines x a ≡ handedOut lines x b
+same-handed lines none a b e = refl
+same-handed lines (some x) a b e = rw e refl
 
 none-written : (x : Option ItemAt) → [] ≡ roomWith x []
 unfolding pick
@@ -83,7 +82,7 @@ none-written (some x) = refl
 pub promised-of-one : {r : ItemRead} {c : ℕ} {after : List ℕ} (file : List ℕ) (batch item : ℕ) → Promised file batch item (c ∷ []) r after → Promised file batch item [] r []
 promised-of-one {r} file batch item p =
     record {
-      handed = λ f h. p .handed f h ∙ none-handed (r .line) (itemAt f batch item);
+      handed = λ f h. p .handed f h ∙ same-handed (r .line) (itemAt f batch item) 1 0 refl;
       written = λ f h. none-written (itemAt f batch item);
       lines = p .lines;
       refusal = p .refusal;
@@ -180,10 +179,6 @@ module _ (out : List ℕ) (l : 128 ≤ length out) where
   first-fits : leb 128 (length (take 128 out)) ≡ true
   first-fits = ap (leb 128) long
 
-  first-handed : (lines : ℕ) (x : Option ItemAt) → handedOut lines x (length out) ≡ handedOut lines x (length (take 128 out))
-  first-handed lines none = refl
-  first-handed lines (some x) = rw (fits, first-fits) refl
-
   first-put : (t : List ℕ) {after : List ℕ} → length after ≡ length out → after ≡ pick (leb 128 (length out)) (t ++ drop 128 out) out → take 128 after ≡ pick (leb 128 (length (take 128 out))) (t ++ drop 128 (take 128 out)) (take 128 out)
   unfolding pick
   first-put t {after} k e =
@@ -199,7 +194,7 @@ module _ (out : List ℕ) (l : 128 ≤ length out) where
   first-promised : {file after : List ℕ} {batch item : ℕ} {r : ItemRead} → length after ≡ length out → Promised file batch item out r after → Promised file batch item (take 128 out) r (take 128 after)
   first-promised {batch = batch} {item = item} {r = r} k p =
       record {
-        handed = λ f h. p .handed f h ∙ first-handed (r .line) (itemAt f batch item);
+        handed = λ f h. p .handed f h ∙ same-handed (r .line) (itemAt f batch item) (length out) (length (take 128 out)) (fits ∙ sym first-fits);
         written = λ f h. first-written (itemAt f batch item) k (p .written f h);
         lines = p .lines;
         refusal = p .refusal;

@@ -2,7 +2,7 @@
 use Prim.Native.Nat.{ℕ, zero, suc, _+_, _-_, _*_, _/_, _%_, _<_, _≤_}
 use mathlib.Core.Path.{_≡_, refl, sym, ap, ap₂, _∙_}
 use mathlib.Core.List.{List, [], _∷_}
-use mathlib.Core.Bool.{Bool, true, false, _&&_}
+use mathlib.Core.Bool.{Bool, true, false}
 use native.Mathlib.Omega.{arith}
 use native.Mathlib.Nat.{mul-le-mul}
 use native.Mathlib.Numerals.{add-one}
@@ -19,7 +19,7 @@ use Rattle.machine.proofs.Base.{and-first, and-second}
 use Rattle.format.specs.Rules.{isEleven, isOrderingAccount, isAccount, weighted}
 use Rattle.field.specs.declared.numbers.Numeric.{Numeric}
 use Rattle.field.specs.Leaf.{TenDigits, weighedSum, isOwnIf, numericOf, rangeTests}
-use Rattle.field.proofs.Numerics.{is-digits}
+use Rattle.field.proofs.Numerics.{is-digits, next-low, next-high, next-left}
 use Rattle.field.proofs.Rows.{of-value}
 
 -- ## The sum, digit by digit
@@ -40,23 +40,14 @@ module _ {s : List ℕ} {sum w i : ℕ} (r : Weighing s sum w i) where
   weighing-all l = let e : sum + 0 ≡ sum = omega arith in sym e ∙ rw (← r .left, drop-of-length-le s l)
 
   module _ (h : i < length s) (k : length s ≤ 10) where
-    here : (isDigit (getD s i 0) && all isDigit (drop (suc i) s)) ≡ true
-    here = rw (drop-cons s i 0 h) at (r .digits)
-
-    is-digit : isDigit (getD s i 0) ≡ true
-    is-digit = and-first _ _ here
-
     pub weight-low : 48 ≤ getD s i 0
-    weight-low = leb-true 48 _ (and-first _ _ is-digit)
-
-    high : getD s i 0 ≤ 57
-    high = leb-true _ 57 (and-second (leb 48 (getD s i 0)) _ is-digit)
+    weight-low = next-low s i (r .digits) h
 
     module _ {d : ℕ} (e : d ≡ getD s i 0 - 48) where
       product : w * d ≤ 90
       product =
           let a : w ≤ 10 = omega (arith, r) in
-          let b : d ≤ 9 = omega (arith, high) in
+          let b : d ≤ 9 = omega (arith, next-high s i (r .digits) h) in
           omega (arith, mul-le-mul a b)
 
       pub weighing-more : Weighing s (sum + w * d) (w - 1) (i + 1)
@@ -67,7 +58,7 @@ module _ {s : List ℕ} {sum w i : ℕ} (r : Weighing s sum w i) where
           record {
             within = omega arith;
             weight = omega (arith, r);
-            digits = rw add-one (and-second (isDigit (getD s i 0)) _ here);
+            digits = next-left s i (r .digits) h;
             small = omega (arith, r, product);
             left = rw add-one (omega (arith, r .left, q));
           }

@@ -23,6 +23,24 @@ use Rattle.field.specs.Rows.{firstAnswer, fieldAnswer}
 use Rattle.field.specs.Leaf.{noDigits, digitsOf, wrongAs, rightOf, numericBy, numericAnswer, numericOf, rangedBy, rangeTests}
 use Rattle.field.proofs.Picks.{picks, told}
 
+-- ## The next of the digits that are left
+
+module _ (s : List ℕ) (i : ℕ) (left : all isDigit (drop i s) ≡ true) (h : i < length s) where
+  here : (isDigit (getD s i 0) && all isDigit (drop (suc i) s)) ≡ true
+  here = rw (drop-cons s i 0 h) at left
+
+  is-digit : isDigit (getD s i 0) ≡ true
+  is-digit = and-first _ _ here
+
+  pub next-low : 48 ≤ getD s i 0
+  next-low = leb-true 48 _ (and-first _ _ is-digit)
+
+  pub next-high : getD s i 0 ≤ 57
+  next-high = leb-true _ 57 (and-second (leb 48 (getD s i 0)) _ is-digit)
+
+  pub next-left : all isDigit (drop (i + 1) s) ≡ true
+  next-left = rw add-one (and-second (isDigit (getD s i 0)) _ here)
+
 -- ## The value of digits
 
 pub record Reading (s : List ℕ) (v i : ℕ) : Type 0 where
@@ -40,24 +58,18 @@ module _ {s : List ℕ} {v i : ℕ} (r : Reading s v i) where
   reading-all l = rw (← r .value, drop-of-length-le s l)
 
   module _ (h : i < length s) where
-    here : (isDigit (getD s i 0) && all isDigit (drop (suc i) s)) ≡ true
-    here = rw (drop-cons s i 0 h) at (r .digits)
-
-    is-digit : isDigit (getD s i 0) ≡ true
-    is-digit = and-first _ _ here
-
     pub digit-low : 48 ≤ getD s i 0
-    digit-low = leb-true 48 _ (and-first _ _ is-digit)
+    digit-low = next-low s i (r .digits) h
 
     pub digit-high : getD s i 0 ≤ 57
-    digit-high = leb-true _ 57 (and-second (leb 48 (getD s i 0)) _ is-digit)
+    digit-high = next-high s i (r .digits) h
 
     pub reading-more : {d : ℕ} → d ≡ getD s i 0 - 48 → Reading s (v * 10 + d) (i + 1)
     unfolding valueAfter
     reading-more e =
         record {
           within = omega arith;
-          digits = rw add-one (and-second (isDigit (getD s i 0)) _ here);
+          digits = next-left s i (r .digits) h;
           small = rw add-one (omega (arith, r, digit-high));
           value = rw (add-one, e) (sym (rw (← r .value, drop-cons s i 0)));
         }

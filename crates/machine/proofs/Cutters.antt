@@ -8,7 +8,7 @@ use native.Mathlib.Omega.{arith}
 use lib.ListN.{length, take, drop, take-append-drop, length-drop, length-append}
 use lib.Seq.{take-at, drop-at, length-take-le}
 use lib.Dec.{T, leb, leb→le, le→leb}
-use Rattle.machine.proofs.Base.{and-l, and-r, and-i, of-eq}
+use Rattle.machine.proofs.Base.{and-l, and-r, and-i, of-eq, yes}
 use Rattle.machine.specs.Lines.{Cut, blockCut}
 use Rattle.machine.proofs.Lines.{Cuts}
 
@@ -17,10 +17,6 @@ some≡ e = cc
 
 none≢ : {q : List ℕ × List ℕ} → _≡_ {A = Cut} none (some q) → ⊥
 none≢ e = let z : _≡_ {A = ℕ} 0 1 = cc in omega arith
-
-is-true : (b : Bool) → T b → b ≡ true
-is-true true t = refl
-is-true false t = absurd t
 
 module _ (W : ℕ) (W-pos : 0 < W) (fine : List ℕ → Bool) where
   record Whole (b c r : List ℕ) : Type 0 where
@@ -49,7 +45,7 @@ module _ (W : ℕ) (W-pos : 0 < W) (fine : List ℕ → Bool) where
   again c r h f =
       let t : take W (c ++ r) ≡ c = take-at c r W h in
       let d : drop W (c ++ r) ≡ r = drop-at c r W h in
-      rw (t, d) (ap (λ q. cond q (some (c, r)) none) (is-true (leb W (length (c ++ r)) && fine c) (and-i (leb W (length (c ++ r))) (fine c) (le→leb W (length (c ++ r)) (rw length-append (omega arith))) f)))
+      rw (t, d) (ap (λ q. cond q (some (c, r)) none) (yes (leb W (length (c ++ r)) && fine c) (and-i (leb W (length (c ++ r))) (fine c) (le→leb W (length (c ++ r)) (rw length-append (omega arith))) f)))
 
   pub block-of : (b c r : List ℕ) → blockCut W fine b ≡ some (c, r) → (length c ≡ W) × T (fine c)
   block-of b c r e = let w = whole b c r e in (rw (← (w .first)) (length-take-le W b (w .long)), subst (λ l. T (fine l)) (w .first) (w .good))

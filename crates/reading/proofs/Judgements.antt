@@ -4,7 +4,7 @@ use mathlib.Core.Path.{_≡_, refl, sym, ap, _∙_, subst}
 use mathlib.Core.List.{List}
 use mathlib.Core.Bool.{Bool, true, false}
 use native.Mathlib.Omega.{arith}
-use borrow.Author.Tests.{eq-eqb, ne-eqb, ltb-true, eqb-true}
+use borrow.Author.Tests.{eq-eqb, ne-eqb, ltb-true, eqb-true, eqb-false}
 use lib.ListN.{take}
 use lib.Dec.{T, eqb}
 use Rattle.machine.specs.Lists.{pick}
@@ -150,9 +150,6 @@ text-room s a =
     let r = s .item .reference in
     omega (arith, ltb-true (s .item .descriptions) (mostDescriptions r) (and-second (mayText (s .stage) (s .group) (s .item .name)) _ a), four-at-most r)
 
-eqb-zero : (n : ℕ) → eqb n 0 ≡ false → n ≡ 0 → ⊥
-eqb-zero n h e = subst T (sym (eq-eqb n 0 e) ∙ h) tt
-
 abbrev Roomy : Batch → ℕ → Type 0
 Roomy b n = (b .items < 100000) × (b .total + n ≤ 4537802160901)
 
@@ -164,7 +161,7 @@ item-room said g b line z = by (transactionOf g (b .account) line) refl (eqb (tr
         let y = eqb-true (r .number) 0 h in
         let m = ap (λ (f : Fault). f .number) (sym (transaction-taken g b line e said y)) ∙ z in
         subst (λ t. Roomy b (t .amount)) (transaction-read g b line e y) (maxima-kept b (r .read .amount) m)
-    by r e false h = absurd (eqb-zero (r .number) h (ap (λ (f : Fault). f .number) (sym (transaction-refused g b line e said (eqb-zero (r .number) h))) ∙ z))
+    by r e false h = absurd (eqb-false (r .number) 0 h (ap (λ (f : Fault). f .number) (sym (transaction-refused g b line e said (eqb-false (r .number) 0 h))) ∙ z))
 
 same-kept : {s u : State} → u .batch ≡ s .batch → u .item .descriptions ≡ s .item .descriptions → Kept s → Kept u
 same-kept b d k =

@@ -1,14 +1,16 @@
 -- What the judging of a first line can come to, by cases. Assumes nothing.
-use Prim.Native.Nat.{ℕ}
-use mathlib.Core.Path.{_≡_, refl, sym, ap, _∙_, subst}
+use Prim.Native.Nat.{ℕ, _+_}
+use mathlib.Core.Path.{_≡_, refl, ap, _∙_}
 use mathlib.Core.List.{List}
 use mathlib.Core.Bool.{Bool, true, false}
 use native.Mathlib.Omega.{arith}
-use borrow.Author.Tests.{eqb-true, eq-eqb}
+use borrow.Author.Tests.{eqb-true, eqb-false}
 use lib.ListN.{take}
-use lib.Dec.{T, eqb}
+use lib.Dec.{eqb}
 use Rattle.machine.specs.Lists.{pick}
+use Rattle.format.specs.Records.{Fields}
 use Rattle.format.specs.declared.Kind.{Kind}
+use Rattle.format.specs.declared.Kind.the-variants.{FileHeader, BatchHeaderB, BatchHeaderC, FixedDescription, OrderingParty, Transaction, NamePayer, CityPayer, PaymentReference, Description, NameBeneficiary, CityBeneficiary, BatchTrailer, FileTrailer}
 use Rattle.format.specs.declared.Code.{Code}
 use Rattle.format.specs.declared.Code.the-variants.{Of, Unknown}
 use Rattle.record.specs.Kinds.{codeOf}
@@ -20,18 +22,32 @@ use Rattle.reading.specs.Step.{nextFor, refused, taken, judgedAs, judged
 use Rattle.reading.specs.declared.State.{State}
 use Rattle.reading.specs.declared.Judged.{Judged}
 
+-- a record that is taken is one line
+pub next-line : (s : State) (k : Kind) (x : Fields k) → nextFor s k x .line ≡ s .line + 1
+next-line s FileHeader x = refl
+next-line s BatchHeaderB x = refl
+next-line s BatchHeaderC x = refl
+next-line s FixedDescription x = refl
+next-line s OrderingParty x = refl
+next-line s Transaction x = refl
+next-line s NamePayer x = refl
+next-line s CityPayer x = refl
+next-line s PaymentReference x = refl
+next-line s Description x = refl
+next-line s NameBeneficiary x = refl
+next-line s CityBeneficiary x = refl
+next-line s BatchTrailer x = refl
+next-line s FileTrailer x = refl
+
 pub data Verdict (s : State) (line : List ℕ) : Judged → Type 0 where
   stopped : (c n : ℕ) → (n ≡ 0 → ⊥) → Verdict s line (refused s c n)
   went : (k : Kind) → codeOf (take 5 line) ≡ Of k → allowed s k ≡ true → faultOf (s .said) (s .group) (s .batch) k line .number ≡ 0 → Verdict s line (taken k (nextFor s k (fieldsOf k line)))
-
-eqb-not : (n : ℕ) → eqb n 0 ≡ false → n ≡ 0 → ⊥
-eqb-not n h e = subst T (sym (eq-eqb n 0 e) ∙ h) tt
 
 by-fault : (s : State) (line : List ℕ) (k : Kind) (f : Fault) → codeOf (take 5 line) ≡ Of k → allowed s k ≡ true → faultOf (s .said) (s .group) (s .batch) k line ≡ f → (q : Bool) → eqb (f .number) 0 ≡ q
     → Verdict s line (pick q (taken k (nextFor s k (fieldsOf k line))) (refused s (f .column) (f .number)))
 unfolding pick
 by-fault s line k f c a e true h = went k c a (ap (λ (g : Fault). g .number) e ∙ eqb-true (f .number) 0 h)
-by-fault s line k f c a e false h = stopped (f .column) (f .number) (eqb-not (f .number) h)
+by-fault s line k f c a e false h = stopped (f .column) (f .number) (eqb-false (f .number) 0 h)
 
 by-place : (s : State) (line : List ℕ) (k : Kind) → codeOf (take 5 line) ≡ Of k → (q : Bool) → allowed s k ≡ q → Verdict s line (pick q (judgedAs s k line) (refused s 1 3))
 unfolding pick judgedAs

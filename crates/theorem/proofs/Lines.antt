@@ -16,7 +16,7 @@ use Rattle.format.specs.Rules.{isUnchecked, needsName, typeOf}
 use Rattle.format.specs.Language.{In, tenDigits}
 use Rattle.format.specs.Tests.{Check}
 use Rattle.format.specs.declared.Kind.{Kind}
-use Rattle.format.specs.declared.Kind.the-variants.{FileHeader, BatchHeaderB, BatchHeaderC, FixedDescription, OrderingParty, Transaction, NamePayer, CityPayer, PaymentReference, Description, NameBeneficiary, CityBeneficiary, BatchTrailer, FileTrailer}
+use Rattle.format.specs.declared.Kind.the-variants.{Transaction}
 use Rattle.format.specs.declared.Group.{Group}
 use Rattle.format.specs.declared.Group.the-variants.{Payments, Debits}
 use Rattle.format.specs.declared.TypeRead.{TypeRead}
@@ -35,6 +35,7 @@ use Rattle.record.specs.declared.Batch.{Batch}
 use Rattle.record.specs.declared.Fault.{Fault}
 use Rattle.record.proofs.Faulting.{fault-numbers}
 use Rattle.record.proofs.Coding.{code-is, no-code}
+use Rattle.reading.proofs.Verdicts.{next-line}
 use Rattle.reading.specs.declared.Stage.{Stage}
 use Rattle.reading.specs.declared.Stage.the-variants.{Start, Headed, Opened, Ordered, Item, Closed, Done}
 use Rattle.reading.specs.declared.Name.{Name}
@@ -158,22 +159,6 @@ pub data Agrees (s : State) (line : List ℕ) : Judged → Type 0 where
   goes : (k : Kind) (u : State) → step (placeOf s) line ≡ next (placeOf u) → u .line ≡ s .line + 1 → Agrees s line (taken k u)
   stops : (column number : ℕ) → In 1 9 number → step (placeOf s) line ≡ refuse number column → Agrees s line (refused s column number)
 
-one-more : (s : State) (k : Kind) (x : Fields k) → nextFor s k x .line ≡ s .line + 1
-one-more s FileHeader x = refl
-one-more s BatchHeaderB x = refl
-one-more s BatchHeaderC x = refl
-one-more s FixedDescription x = refl
-one-more s OrderingParty x = refl
-one-more s Transaction x = refl
-one-more s NamePayer x = refl
-one-more s CityPayer x = refl
-one-more s PaymentReference x = refl
-one-more s Description x = refl
-one-more s NameBeneficiary x = refl
-one-more s CityBeneficiary x = refl
-one-more s BatchTrailer x = refl
-one-more s FileTrailer x = refl
-
 module _ (s : State) (line : List ℕ) (k : Kind) (e : take 5 line ≡ code k) where
   x : Fields k
   x = fieldsOf k line
@@ -199,7 +184,7 @@ module _ (s : State) (line : List ℕ) (k : Kind) (e : take 5 line ≡ code k) w
 
   by-fault : Place (phaseOf s) k → (f : Fault) → f .number ≤ 9 → Same (placeOf (nextFor s k x)) faults f → Agrees s line (judgedBy s k line f)
   unfolding x pick
-  by-fault pl f h (passed p) = goes k (nextFor s k x) (stepped pl ∙ pass-judge faults (placeOf (nextFor s k x)) p) (one-more s k x)
+  by-fault pl f h (passed p) = goes k (nextFor s k x) (stepped pl ∙ pass-judge faults (placeOf (nextFor s k x)) p) (next-line s k x)
   by-fault pl f h (stopped c n z q) =
       subst (λ b. Agrees s line (pick b (taken k (nextFor s k x)) (refused s c n))) (sym (ne-eqb n 0 (omega arith))) (stops c n (z, h) (stepped pl ∙ q))
 

@@ -36,7 +36,7 @@ use Rattle.reading.specs.declared.Judged.{Judged}
 use Rattle.reading.specs.declared.LineRead.{LineRead}
 use Rattle.reading.proofs.Answers.{step-first}
 use Rattle.reading.proofs.Running.{first-52, whole-long}
-use Rattle.reading.proofs.Verdicts.{Taken, takes}
+use Rattle.reading.proofs.Verdicts.{next-line, Taken, takes}
 use Rattle.writer.specs.Encoding.{lineEnd}
 
 -- ## Rows that all passed
@@ -103,22 +103,6 @@ numbered said g b BatchTrailer x = ((tt, (tt, tt)), ((tt, tt), ((tt, (tt, tt)), 
 numbered said g b FileTrailer x = (tt, tt)
 
 -- ## An accepted line
-
-next-line : (s : State) (k : Kind) (x : Fields k) → nextFor s k x .line ≡ s .line + 1
-next-line s FileHeader x = refl
-next-line s BatchHeaderB x = refl
-next-line s BatchHeaderC x = refl
-next-line s FixedDescription x = refl
-next-line s OrderingParty x = refl
-next-line s Transaction x = refl
-next-line s NamePayer x = refl
-next-line s CityPayer x = refl
-next-line s PaymentReference x = refl
-next-line s Description x = refl
-next-line s NameBeneficiary x = refl
-next-line s CityBeneficiary x = refl
-next-line s BatchTrailer x = refl
-next-line s FileTrailer x = refl
 
 -- a record that is read and taken
 abbrev pub takenAs : State → (k : Kind) → Fields k → LineRead
