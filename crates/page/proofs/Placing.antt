@@ -12,7 +12,7 @@ use mir.Val.{Fits}
 use mir.Syntax.{w64}
 use Rattle.machine.specs.Lists.{pick, placed, putIn}
 use Rattle.field.proofs.Putting.{put-next}
-use Rattle.page.specs.Lines.{lineOf, withLine}
+use Rattle.page.specs.Lines.{lineOf, withText}
 
 -- ## Room
 
@@ -32,14 +32,31 @@ module _ (size at key text : ℕ) where
 
 pub ruleset rooms = (room-none, room-key, room-text, needs)
 
+-- ## A text
+
+module _ (page : List ℕ) (at : ℕ) (text : List ℕ) where
+  pub text-beyond : length page < at → (page, at) ≡ withText (page, at) text
+  unfolding withText pick
+  text-beyond h = rw (lt-leb (at + length text) (length page) (omega arith)) refl
+
+  pub text-left : length page - at < length text → (page, at) ≡ withText (page, at) text
+  unfolding withText pick
+  text-left h = rw (lt-leb (at + length text) (length page) (omega arith)) refl
+
+  pub text-put : {p : List ℕ} → at ≤ length page → length text ≤ length page - at → p ≡ putIn page at text → (p, at + length text) ≡ withText (page, at) text
+  unfolding withText putIn pick
+  text-put h k e = ap (λ u. (u, at + length text)) e ∙ rw (le-leb (at + length text) (length page) (omega arith)) refl
+
+pub ruleset texts = (text-beyond, text-left, text-put, needs)
+
 -- ## A line
 
 module _ {r : Bool} (page : List ℕ) (at : ℕ) (key text : List ℕ) (e : r ≡ leb (at + (length key + (length text + 1))) (length page)) where
   size : length (lineOf key text) ≡ length key + (length text + 1)
   size = rw (length-append, length-append)
 
-  pub line-left : r ≡ false → (page, at) ≡ withLine (page, at) (lineOf key text)
-  unfolding withLine pick
+  pub line-left : r ≡ false → (page, at) ≡ withText (page, at) (lineOf key text)
+  unfolding withText pick
   line-left h = rw (size, ← e, h) refl
 
   room : r ≡ true → at + (length key + (length text + 1)) ≤ length page
@@ -51,8 +68,8 @@ module _ {r : Bool} (page : List ℕ) (at : ℕ) (key text : List ℕ) (e : r �
   pub end-fits : {a : ℕ} → r ≡ true → a ≡ at + (length key + length text) → Fits w64 (length page) → Fits w64 (a + 1)
   end-fits h f g = let k = room h in omega arith
 
-  pub line-put : {p l : List ℕ} {a : ℕ} → r ≡ true → a ≡ at + (length key + length text) → p ≡ placed page at (key ++ text) → l ≡ putIn p a (10 ∷ []) → (l, a + 1) ≡ withLine (page, at) (lineOf key text)
-  unfolding withLine pick
+  pub line-put : {p l : List ℕ} {a : ℕ} → r ≡ true → a ≡ at + (length key + length text) → p ≡ placed page at (key ++ text) → l ≡ putIn p a (10 ∷ []) → (l, a + 1) ≡ withText (page, at) (lineOf key text)
+  unfolding withText pick
   line-put {p} {l} {a} h f d x =
       let k = room h in
       let s = size in

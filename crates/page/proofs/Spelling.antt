@@ -12,7 +12,7 @@ use lib.Dec.{eqb}
 use Rattle.machine.specs.Lists.{pick}
 use Rattle.machine.specs.Digits.{decimal}
 use Rattle.machine.proofs.Digits.{length-decimal}
-use Rattle.page.specs.Lines.{lineOf, withLine, withoutZeros, numberText, answerKey, lineKey, columnKey, withAnswer}
+use Rattle.page.specs.Lines.{lineOf, withText, withoutZeros, numberText, answerKey, lineKey, columnKey, withAnswer}
 
 -- ## Zeros in front
 
@@ -49,18 +49,22 @@ pub ruleset passes = (pass-none, pass-more, pass-stop, pass-all, needs)
 
 -- ## On a page
 
-pub number-line : {o : List ℕ × ℕ} {d t : List ℕ} {k : ℕ} (page : List ℕ × ℕ) (key : List ℕ) (n least z : ℕ) → d ≡ decimal 20 n → k ≡ 19 - (least - 1) → drop z d ≡ withoutZeros k d
-    → t ≡ take 20 (drop z d) → o ≡ withLine page (lineOf key t) → o ≡ withLine page (lineOf key (numberText least n))
-unfolding numberText
-number-line {d = d} page key n least z e f g h p =
-    let l = ap length e ∙ length-decimal 20 n in
-    p ∙ ap (λ x. withLine page (lineOf key x)) (h ∙ take-all 20 (drop z d) (rw length-drop (omega arith)) ∙ g ∙ ap₂ withoutZeros f e)
+module _ {d t : List ℕ} {k : ℕ} (n least z : ℕ) (e : d ≡ decimal 20 n) (f : k ≡ 19 - (least - 1)) (g : drop z d ≡ withoutZeros k d) (h : t ≡ take 20 (drop z d)) where
+  number-text : t ≡ numberText least n
+  unfolding numberText
+  number-text = let l = ap length e ∙ length-decimal 20 n in h ∙ take-all 20 (drop z d) (rw length-drop (omega arith)) ∙ g ∙ ap₂ withoutZeros f e
 
-pub ruleset spells = (number-line, needs)
+  pub number-line : {o : List ℕ × ℕ} (page : List ℕ × ℕ) (key : List ℕ) → o ≡ withText page (lineOf key t) → o ≡ withText page (lineOf key (numberText least n))
+  number-line page key p = p ∙ ap (λ x. withText page (lineOf key x)) number-text
 
-pub answer-lines : {p q : List ℕ} {a b : ℕ} {o : List ℕ × ℕ} (page : List ℕ × ℕ) (answer line column : ℕ) → (p, a) ≡ withLine page (lineOf answerKey (numberText 1 answer))
-    → (q, b) ≡ withLine (p, a) (lineOf lineKey (numberText 1 line)) → o ≡ withLine (q, b) (lineOf columnKey (numberText 1 column)) → o ≡ withAnswer page answer line column
+  pub number-put : {o : List ℕ × ℕ} (page : List ℕ × ℕ) → o ≡ withText page t → o ≡ withText page (numberText least n)
+  number-put page p = p ∙ ap (withText page) number-text
+
+pub ruleset spells = (number-line, number-put, needs)
+
+pub answer-lines : {p q : List ℕ} {a b : ℕ} {o : List ℕ × ℕ} (page : List ℕ × ℕ) (answer line column : ℕ) → (p, a) ≡ withText page (lineOf answerKey (numberText 1 answer))
+    → (q, b) ≡ withText (p, a) (lineOf lineKey (numberText 1 line)) → o ≡ withText (q, b) (lineOf columnKey (numberText 1 column)) → o ≡ withAnswer page answer line column
 unfolding withAnswer
-answer-lines page answer line column k l m = m ∙ ap (λ u. withLine u (lineOf columnKey (numberText 1 column))) (l ∙ ap (λ u. withLine u (lineOf lineKey (numberText 1 line))) k)
+answer-lines page answer line column k l m = m ∙ ap (λ u. withText u (lineOf columnKey (numberText 1 column))) (l ∙ ap (λ u. withText u (lineOf lineKey (numberText 1 line))) k)
 
 pub ruleset answers = (answer-lines, needs)

@@ -11,9 +11,9 @@ use Rattle.machine.specs.Digits.{decimal}
 abbrev pub lineOf : List ℕ → List ℕ → List ℕ
 lineOf key text = key ++ (text ++ (10 ∷ []))
 
--- A LINE ON A PAGE: after what it is filled with; where it has no room it is left out whole
-unfoldable pub withLine : List ℕ × ℕ → List ℕ → List ℕ × ℕ
-withLine (page, at) line = pick (leb (at + length line) (length page)) (placed page at line, at + length line) (page, at)
+-- A TEXT ON A PAGE: after what it is filled with; where it has no room it is left out whole
+unfoldable pub withText : List ℕ × ℕ → List ℕ → List ℕ × ℕ
+withText (page, at) line = pick (leb (at + length line) (length page)) (placed page at line, at + length line) (page, at)
 
 -- without the zeros in front, of which so many may be left out
 unfoldable pub withoutZeros : ℕ → List ℕ → List ℕ
@@ -38,7 +38,7 @@ columnKey = 99 ∷ 111 ∷ 108 ∷ 117 ∷ 109 ∷ 110 ∷ 61 ∷ []
 -- THE LAST THREE LINES: 'the last three have no leading zeros'
 unfoldable pub withAnswer : List ℕ × ℕ → ℕ → ℕ → ℕ → List ℕ × ℕ
 withAnswer page answer line column =
-    withLine (withLine (withLine page
+    withText (withText (withText page
     (lineOf answerKey (numberText 1 answer)))
     (lineOf lineKey (numberText 1 line)))
     (lineOf columnKey (numberText 1 column))
@@ -49,4 +49,4 @@ inputKey = 105 ∷ 110 ∷ 112 ∷ 117 ∷ 116 ∷ 61 ∷ []
 
 -- THE NAME OF AN INPUT, where there are several
 abbrev pub withInput : List ℕ → List ℕ → Bool → List ℕ × ℕ
-withInput page name several = pick several (withLine (page, 0) (lineOf inputKey name)) (page, 0)
+withInput page name several = pick several (withText (page, 0) (lineOf inputKey name)) (page, 0)

@@ -1,14 +1,27 @@
-// What the programs print: key=value lines, gathered on a lent page. Each function answers how far the page is filled.
+// What the programs print: texts and key=value lines, gathered on a lent page. Each function answers how far the page is filled.
 ghost use mathlib.Core.Path.{_≡_};
 ghost use mathlib.Core.List.{_++_};
 ghost use Prim.Native.Nat.{_+_, _-_, _≤_};
 ghost use lib.ListN.{length, drop};
 ghost use lib.Dec.{leb};
 ghost use Rattle.machine.specs.Lists.{placed};
-ghost use Rattle.page.specs.Lines.{lineOf, withLine, withoutZeros, numberText, withAnswer, withInput};
+ghost use Rattle.page.specs.Lines.{lineOf, withText, withoutZeros, numberText, withAnswer, withInput};
 use field::bytes::part;
 use field::bytes::put;
 use field::numbers::spelt;
+
+// A text. One that has no room is left out whole.
+pub fn put_text(page: &mut [u8], at: usize, text: &[u8]) -> usize
+    ensures { λ r. ⌜ (now (page .exit), r) ≡ withText (now (page .entry), at) (now (text .entry)) ⌝ }
+{
+    if at <= page.len() {
+        if text.len() <= page.len() - at {
+            put(text, at, page);
+            return at + text.len();
+        }
+    }
+    at
+}
 
 // Whether a line of that key and text has room.
 fn has_room(size: usize, at: usize, key: usize, text: usize) -> bool
@@ -36,7 +49,7 @@ fn put_both(page: &mut [u8], at: usize, key: &[u8], text: &[u8]) -> usize
 
 // A key and a text. A line that has no room is left out whole.
 pub fn put_line(page: &mut [u8], at: usize, key: &[u8], text: &[u8]) -> usize
-    ensures { λ r. ⌜ (now (page .exit), r) ≡ withLine (now (page .entry), at) (lineOf (now (key .entry)) (now (text .entry))) ⌝ }
+    ensures { λ r. ⌜ (now (page .exit), r) ≡ withText (now (page .entry), at) (lineOf (now (key .entry)) (now (text .entry))) ⌝ }
 {
     if has_room(page.len(), at, key.len(), text.len()) {
         let a = put_both(page, at, key, text);
@@ -74,9 +87,18 @@ fn zeros(digits: &[u8], most: usize) -> usize
     z
 }
 
+// A number without zeros in front.
+pub fn put_digits(page: &mut [u8], at: usize, n: u64) -> usize
+    ensures { λ r. ⌜ (now (page .exit), r) ≡ withText (now (page .entry), at) (numberText 1 n) ⌝ }
+{
+    let digits = spelt(n);
+    let z = zeros(&digits, spare(1));
+    put_text(page, at, part(&digits, z, 20))
+}
+
 // A key and a number of at least so many digits.
 pub fn put_number(page: &mut [u8], at: usize, key: &[u8], n: u64, least: usize) -> usize
-    ensures { λ r. ⌜ (now (page .exit), r) ≡ withLine (now (page .entry), at) (lineOf (now (key .entry)) (numberText least n)) ⌝ }
+    ensures { λ r. ⌜ (now (page .exit), r) ≡ withText (now (page .entry), at) (lineOf (now (key .entry)) (numberText least n)) ⌝ }
 {
     let digits = spelt(n);
     let z = zeros(&digits, spare(least));
