@@ -1,0 +1,44 @@
+-- The names of fields (01, 'Record table'), and which of them stands at a column.
+use Prim.Native.Nat.{ℕ, _+_}
+use Prim.Native.String.{String}
+use mathlib.Core.List.{List, [], _∷_}
+use lib.Dec.{eqb}
+use Rattle.machine.specs.Lists.{pick}
+use Rattle.format.specs.Fields.{Field, width}
+use Rattle.format.specs.Records.{layout}
+use Rattle.format.specs.declared.Kind.{Kind}
+use Rattle.format.specs.declared.Kind.the-variants.{FileHeader, BatchHeaderB, BatchHeaderC, FixedDescription, OrderingParty, Transaction, NamePayer, CityPayer, PaymentReference, Description, NameBeneficiary, CityBeneficiary, BatchTrailer, FileTrailer}
+use Rattle.telling.specs.Texts.{bytesOf}
+
+abbrev pub batchHeaderNames : List String
+batchHeaderNames = "group" ∷ "ordering account" ∷ "sequence" ∷ "currency" ∷ "batch identification" ∷ "filler" ∷ []
+
+-- of each record's fields, in the order of the table
+abbrev pub names : Kind → List String
+names FileHeader = "creation date" ∷ "file name" ∷ "sender" ∷ "identification" ∷ "duplicate code" ∷ "filler" ∷ []
+names BatchHeaderB = batchHeaderNames
+names BatchHeaderC = batchHeaderNames
+names FixedDescription = "text" ∷ "filler" ∷ []
+names OrderingParty = "name code" ∷ "desired date" ∷ "name" ∷ "test code" ∷ "filler" ∷ []
+names Transaction = "type" ∷ "amount" ∷ "payer" ∷ "beneficiary" ∷ "filler" ∷ []
+names NamePayer = "name" ∷ "filler" ∷ []
+names CityPayer = "city" ∷ []
+names PaymentReference = "text" ∷ "filler" ∷ []
+names Description = "text" ∷ "filler" ∷ []
+names NameBeneficiary = "name" ∷ "filler" ∷ []
+names CityBeneficiary = "city" ∷ []
+names BatchTrailer = "total amount" ∷ "total accounts" ∷ "items" ∷ "filler" ∷ []
+names FileTrailer = "filler" ∷ []
+
+-- the name of the field that begins at a column, of fields of which the first begins at c; nothing where none begins
+abbrev pub nameFrom : ℕ → List Field → List String → ℕ → List ℕ
+nameFrom c [] ns column = []
+nameFrom c (f ∷ fs) [] column = []
+nameFrom c (f ∷ fs) (n ∷ ns) column = pick (eqb column c) (bytesOf n) (nameFrom (c + width f) fs ns column)
+
+abbrev pub nameIn : Kind → ℕ → List ℕ
+nameIn k column = nameFrom 6 (layout k) (names k) column
+
+-- THE NAME of the field that a refusal's column names
+unfoldable pub fieldName : Kind → ℕ → List ℕ
+fieldName k column = pick (eqb column 1) (bytesOf "code and variant") (nameIn k column)

@@ -1,0 +1,104 @@
+// What the operator tells the sender: the words of an answer, and the name of the field that its column names.
+ghost use mathlib.Core.Path.{_≡_};
+ghost use mathlib.Core.List.{[]};
+ghost use Rattle.page.specs.Lines.{withText};
+ghost use Rattle.telling.specs.Words.{ofFields, ofCallers, wordsBy, wordsOf};
+use page::put_text;
+
+mod fields;
+
+pub use fields::put_field;
+
+// The answers that only callers of the library meet, and acceptance.
+fn put_words_of_callers(page: &mut [u8], at: usize, answer: u8) -> usize
+    ensures { λ r. ⌜ (now (page .exit), r) ≡ withText (now (page .entry), at) (wordsBy ofCallers [] answer) ⌝ }
+{
+    if answer == format::ACCEPTED {
+        return put_text(page, at, b"accepted");
+    }
+    if answer == format::NO_ROOM {
+        return put_text(page, at, b"the room lent is too small");
+    }
+    if answer == format::NO_SUCH_ITEM {
+        return put_text(page, at, b"there is no such batch or item");
+    }
+    if answer == format::BEYOND_LIMITS {
+        return put_text(
+            page,
+            at,
+            b"the state handed in is none that a file leads to",
+        );
+    }
+    put_text(page, at, b"")
+}
+
+// The answers that name a field.
+fn put_words_of_fields(page: &mut [u8], at: usize, answer: u8) -> usize
+    ensures { λ r. ⌜ (now (page .exit), r) ≡ withText (now (page .entry), at) (wordsBy ofFields (wordsBy ofCallers [] answer) answer) ⌝ }
+{
+    if answer == format::WRONG_FORM {
+        return put_text(
+            page,
+            at,
+            b"the form is wrong: a letter in a number, a strange character, a space first, blank, or not blank",
+        );
+    }
+    if answer == format::WRONG_VALUE {
+        return put_text(
+            page,
+            at,
+            b"the value is not allowed: no such date or type, zero, or above its maximum",
+        );
+    }
+    if answer == format::WRONG_ACCOUNT {
+        return put_text(
+            page,
+            at,
+            b"the account is wrong: eight digits, an ordering account of seven or fewer, or the eleven check fails",
+        );
+    }
+    if answer == format::DIFFERS {
+        return put_text(
+            page,
+            at,
+            b"it differs from what came before: group, sequence, own account, name code or day",
+        );
+    }
+    if answer == format::ABOVE_MAXIMUM {
+        return put_text(
+            page,
+            at,
+            b"the batch has one item too many, or its total is too large",
+        );
+    }
+    if answer == format::WRONG_TRAILER {
+        return put_text(page, at, b"the trailer's number is wrong");
+    }
+    put_words_of_callers(page, at, answer)
+}
+
+// The words of an answer onto a page, and nothing of a number that is no answer's.
+pub fn put_words(page: &mut [u8], at: usize, answer: u8) -> usize
+    ensures { λ r. ⌜ (now (page .exit), r) ≡ withText (now (page .entry), at) (wordsOf answer) ⌝ }
+{
+    if answer == format::BROKEN_LINE {
+        return put_text(page, at, b"the line is broken");
+    }
+    if answer == format::UNKNOWN_RECORD {
+        return put_text(page, at, b"this record does not exist");
+    }
+    if answer == format::MISPLACED_RECORD {
+        return put_text(
+            page,
+            at,
+            b"this record may not stand here, or a name record is missing before it",
+        );
+    }
+    if answer == format::ENDS_EARLY {
+        return put_text(page, at, b"the file ends before its file trailer");
+    }
+    if answer == format::AFTER_TRAILER {
+        return put_text(page, at, b"there is something after the file trailer");
+    }
+    put_words_of_fields(page, at, answer)
+}
