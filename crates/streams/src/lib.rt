@@ -6,6 +6,18 @@ ghost use lib.ListN.{length};
 ghost use Rattle.io.specs.Counts.{Counts};
 use libc::STDIN_FILENO;
 
+mod lines;
+mod status;
+mod twice;
+
+pub use lines::Lines;
+pub use status::end_with;
+pub use status::status_of;
+pub use status::worse;
+pub use twice::Source;
+pub use twice::again;
+pub use twice::rereadable;
+
 // An input: its descriptor, which is negative where it cannot be opened, and how many characters its name has.
 pub struct Input {
     pub fd: i32,

@@ -1,0 +1,15 @@
+use borrow.Author.Needs.{needs}
+use Rattle.streams.proofs.Taking.{pulls}
+use Rattle.streams.proofs.lines.Lines.pulled.Statement.{statement}
+use Rattle.streams.proofs.lines.Lines.pulled.Tie as tie
+
+pub pulled-spec : {M : Type 1} → statement M
+pulled-spec =
+    tie.close
+    (tie.spec
+    (λ c. search pulls depth 20 fits 10000)  -- returns
+    (λ c. search pulls depth 20 fits 10000)  -- returns-2
+    (λ c κs. search needs)  -- fill-requires
+    (λ c. search needs)  -- same-length
+    (λ c. search pulls depth 20 fits 10000)  -- returns-3
+    )

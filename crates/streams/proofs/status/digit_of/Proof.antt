@@ -1,0 +1,13 @@
+use borrow.Author.Needs.{needs}
+use Rattle.streams.proofs.Taking.{statuses}
+use Rattle.streams.proofs.status.digit_of.Statement.{statement}
+use Rattle.streams.proofs.status.digit_of.Tie as tie
+
+pub digit-of-spec : {M : Type 1} → statement M
+digit-of-spec =
+    tie.close
+    (tie.spec
+    (λ c. search needs)  -- add-result
+    (λ c. search statuses depth 20 fits 10000)  -- returns
+    (λ c. search statuses depth 20 fits 10000)  -- returns-2
+    )

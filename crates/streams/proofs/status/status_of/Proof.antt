@@ -1,0 +1,15 @@
+use borrow.Author.Needs.{needs}
+use Rattle.field.proofs.Picks.{picks}
+use Rattle.streams.specs.Status.{statusOf}
+use Rattle.streams.proofs.status.status_of.Statement.{statement}
+use Rattle.streams.proofs.status.status_of.Tie as tie
+
+pub status-of-spec : {M : Type 1} → statement M
+unfolding statusOf
+status-of-spec =
+    tie.close
+    (tie.spec
+    (λ c. search picks depth 20 fits 10000)  -- returns
+    (λ c. search picks depth 20 fits 10000)  -- returns-2
+    (λ c. search picks depth 20 fits 10000)  -- returns-3
+    )
