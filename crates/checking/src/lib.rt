@@ -1,0 +1,64 @@
+// An input checked line by line, for the programs: files of any length in constant memory.
+ghost use Rattle.checking.specs.Answered.{Answered};
+ghost use Rattle.theorem.specs.Reached.{Reached};
+use reading::State;
+use streams::Lines;
+
+// The answer to the last line, its line and column, the state after it, and what is taken of the buffer: a refused line stands next in it.
+pub struct Checked {
+    pub answer: u8,
+    pub line: u64,
+    pub column: u8,
+    pub state: State,
+    pub lines: Lines,
+}
+
+fn answered(state: State, bytes: &[u8], lines: Lines) -> Checked
+    requires { ⌜ Reached state ⌝ }
+    ensures { λ r. ⌜ Answered r ⌝ }
+{
+    let r = state.line(bytes);
+    let next = r.next;
+    Checked {
+        answer: r.answer,
+        line: r.line,
+        column: r.column,
+        state: next,
+        lines,
+    }
+}
+
+impl Checked {
+    // The next line of the buffer, or the end where none is left.
+    fn next(self, lines: Lines, buffer: &[u8]) -> Checked
+        requires { ⌜ Answered self ⌝ }
+        ensures { λ r. ⌜ Answered r ⌝ }
+    {
+        let state = self.state;
+        answered(state, lines.line(buffer), lines)
+    }
+}
+
+// Checks an input up to the first line that is refused, or its end. (A proved loop has to end, so this one counts its turns down from a
+// number that no run uses up.)
+pub fn check(fd: i32, name: &[u8], buffer: &mut [u8]) -> Checked
+    ensures { λ r. ⌜ Answered r ⌝ }
+{
+    let start = Lines::start();
+    let mut checked = answered(State::start(), b"", start);
+    let mut lines = start;
+    let mut turns = u64::MAX;
+    while 0 < turns {
+        lines = lines.pulled(fd, name, buffer);
+        checked = checked.next(lines, buffer);
+        if checked.answer != 0 {
+            return checked;
+        }
+        if lines.end <= lines.at {
+            return checked;
+        }
+        lines = lines.passed(52);
+        turns -= 1;
+    }
+    checked
+}
