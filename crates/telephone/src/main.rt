@@ -1,0 +1,285 @@
+// Says of each file that its arguments name, or of standard input, whether it is accepted, and if not what to tell the sender: the place, the
+// field, what is wrong, and the line as it stands with a mark under the column. For the operator on the telephone.
+use checking::Checked;
+use field::bytes::part;
+use format::Code;
+use libc::STDOUT_FILENO;
+use page::put_digits;
+use page::put_text;
+use record::kinds::code_of;
+use streams::Lines;
+use telling::put_field;
+use telling::put_words;
+
+// A line up to its end, so far: its bytes, the last of them, whether the end was met, and whether a read failed.
+struct Extent {
+    length: u64,
+    last: u8,
+    ended: bool,
+    failed: bool,
+}
+
+// A refused line as it is shown: its code, its first 50 characters, and how many of them.
+struct LineShown {
+    code: Code,
+    text: [u8; 50],
+    count: usize,
+}
+
+fn unmeasured() -> Extent {
+    Extent {
+        length: 0,
+        last: 0,
+        ended: false,
+        failed: false,
+    }
+}
+
+fn with_byte(before: Extent, b: u8) -> Extent {
+    let mut m = before;
+    if m.ended {
+        return m;
+    }
+    if b == 10 {
+        m.ended = true;
+        return m;
+    }
+    if m.length < u64::MAX {
+        m.length += 1;
+    }
+    m.last = b;
+    m
+}
+
+fn measured(before: Extent, bytes: &[u8]) -> Extent {
+    let mut m = before;
+    let mut i = 0;
+    while i < bytes.len() {
+        m = with_byte(m, bytes[i]);
+        i += 1;
+    }
+    m
+}
+
+// The bytes before a line's end, which is 10, or 13 and 10.
+fn length_of(m: Extent) -> u64 {
+    if m.ended {
+        if m.last == 13 {
+            if 0 < m.length {
+                return m.length - 1;
+            }
+        }
+    }
+    m.length
+}
+
+// A line measured up to its end, however far that is.
+fn measured_on(start: Lines, fd: i32, name: &[u8], buffer: &mut [u8]) -> Extent {
+    let mut lines = start;
+    let mut m = unmeasured();
+    let mut turns = u64::MAX;
+    while 0 < turns {
+        lines = lines.pulled(fd, name, buffer);
+        m = measured(m, lines.line(buffer));
+        if m.ended | (lines.end <= lines.at) {
+            m.failed = lines.failed;
+            return m;
+        }
+        lines = lines.passed(52);
+        turns -= 1;
+    }
+    m
+}
+
+// How many bytes of a refused line are shown: those before its end, where its own length is what is wrong or nobody asked for it.
+fn shown_length(answer: u8, line: &[u8]) -> usize {
+    if (answer == format::BROKEN_LINE) | (answer == format::AFTER_TRAILER) {
+        let n = length_of(measured(unmeasured(), line));
+        if n < 50 {
+            return n as usize;
+        }
+    }
+    50
+}
+
+// A byte as it is shown: a full stop for one outside 32 to 126, and a space after the last.
+fn visible(bytes: &[u8], i: usize) -> u8 {
+    if bytes.len() <= i {
+        return 32;
+    }
+    let b = bytes[i];
+    if (b < 32) | (126 < b) {
+        return 46;
+    }
+    b
+}
+
+fn shown_text(bytes: &[u8]) -> [u8; 50] {
+    let mut text = [32u8; 50];
+    let mut i: usize = 0;
+    while i < 50 {
+        text[i] = visible(bytes, i);
+        i += 1;
+    }
+    text
+}
+
+// How many characters of a text there are up to its last that is no space.
+fn filled(text: &[u8]) -> usize {
+    let mut n = text.len();
+    while 0 < n {
+        if text[n - 1] != 32 {
+            return n;
+        }
+        n -= 1;
+    }
+    n
+}
+
+fn shown(answer: u8, line: &[u8]) -> LineShown {
+    let n = shown_length(answer, line);
+    let text = shown_text(part(line, 0, n));
+    let count = filled(&text);
+    let code = code_of(line);
+    LineShown { code, text, count }
+}
+
+fn put_name(page: &mut [u8], name: &[u8]) -> usize {
+    if name.len() == 0 {
+        return put_text(page, 0, b"standard input");
+    }
+    put_text(page, 0, name)
+}
+
+// Which field it is, where the line's record is one of 01's; every other is refused at its code.
+fn put_field_in(page: &mut [u8], at: usize, code: Code, column: u8) -> usize {
+    match code {
+        Code::Of(kind) => put_field(page, at, kind, column),
+        Code::Unknown => put_text(page, at, b"code and variant"),
+    }
+}
+
+fn put_place(page: &mut [u8], at: usize, line: u64, column: u8, code: Code) -> usize {
+    let a = put_text(page, at, b": line ");
+    let b = put_digits(page, a, line);
+    if column == 0 {
+        return b;
+    }
+    let c = put_text(page, b, b", column ");
+    let d = put_digits(page, c, column as u64);
+    let e = put_text(page, d, b", ");
+    put_field_in(page, e, code, column)
+}
+
+// How a line is broken, where it is.
+fn put_how(page: &mut [u8], at: usize, answer: u8, m: Extent) -> usize {
+    let n = length_of(m);
+    if answer != format::BROKEN_LINE {
+        return at;
+    }
+    if !m.ended {
+        let a = put_text(page, at, b": the file ends after byte ");
+        let b = put_digits(page, a, n);
+        return put_text(page, b, b" of it");
+    }
+    if n == 50 {
+        return put_text(
+            page,
+            at,
+            b": it ends with byte 10 alone, without 13 before it",
+        );
+    }
+    let a = put_text(page, at, b": its length is ");
+    let b = put_digits(page, a, n);
+    put_text(page, b, b", not 50")
+}
+
+fn put_what(page: &mut [u8], at: usize, answer: u8, m: Extent) -> usize {
+    let a = put_text(page, at, b": ");
+    let b = put_words(page, a, answer);
+    let c = put_how(page, b, answer, m);
+    let d = put_text(page, c, b" (answer ");
+    let e = put_digits(page, d, answer as u64);
+    put_text(page, e, b")\n")
+}
+
+// The line as it stands, and the mark under its column.
+fn put_line_as_is(page: &mut [u8], at: usize, line: LineShown, column: u8) -> usize {
+    let text = line.text;
+    let a = put_text(page, at, b"  ");
+    let b = put_text(page, a, part(&text, 0, line.count));
+    let c = put_text(page, b, b"\n");
+    if column == 0 {
+        return c;
+    }
+    let spaces = [32u8; 256];
+    let d = put_text(page, c, part(&spaces, 0, column as usize + 1));
+    put_text(page, d, b"^\n")
+}
+
+fn put_refusal(page: &mut [u8], at: usize, checked: Checked, line: LineShown, m: Extent) -> usize {
+    let code = line.code;
+    let a = put_place(page, at, checked.line, checked.column, code);
+    let b = put_what(page, a, checked.answer, m);
+    if checked.answer == format::ENDS_EARLY {
+        return b;
+    }
+    put_line_as_is(page, b, line, checked.column)
+}
+
+fn put_acceptance(page: &mut [u8], at: usize, lines: u64) -> usize {
+    let a = put_text(page, at, b": accepted, ");
+    let b = put_digits(page, a, lines);
+    put_text(page, b, b" lines\n")
+}
+
+// What is printed of a file, and whether that was done.
+fn is_said(checked: Checked, line: LineShown, m: Extent, name: &[u8]) -> bool {
+    let mut page = [0u8; 8192];
+    let a = put_name(&mut page, name);
+    if checked.answer == 0 {
+        let b = put_acceptance(&mut page, a, checked.line);
+        return streams::told(io::write_all(STDOUT_FILENO, part(&page, 0, b)));
+    }
+    let b = put_refusal(&mut page, a, checked, line, m);
+    streams::told(io::write_all(STDOUT_FILENO, part(&page, 0, b)))
+}
+
+fn check_file(fd: i32, name: &[u8]) -> u8 {
+    let mut buffer = [0u8; 65520];
+    let checked = checking::check(fd, name, &mut buffer);
+    let lines = checked.lines;
+    let line = shown(checked.answer, lines.line(&buffer));
+    let mut m = unmeasured();
+    if checked.answer == format::BROKEN_LINE {
+        m = measured_on(lines, fd, name, &mut buffer);
+    }
+    if lines.failed | m.failed {
+        return streams::status_of(checked.answer, false);
+    }
+    streams::status_of(checked.answer, is_said(checked, line, m, name))
+}
+
+// The file of argument i, or standard input.
+fn check_input(i: usize) -> u8 {
+    let mut name = io::buffer();
+    let input = streams::open(i, &mut name);
+    let n = input.characters;
+    if input.fd < 0 {
+        return streams::status_of(0, false);
+    }
+    let status = check_file(input.fd, &name[..n]);
+    libc::close(input.fd);
+    status
+}
+
+fn main() {
+    let arguments = os::arg_count();
+    let mut status = check_input(1);
+    let mut i = 2;
+    while i < arguments {
+        status = streams::worse(status, check_input(i));
+        i += 1;
+    }
+    streams::end_with(status);
+}
