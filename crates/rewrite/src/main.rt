@@ -1,25 +1,28 @@
 // Writes each file that its arguments name, or standard input, again to standard output: record by record from its reading, without
-// city records. Of a refused file the lines before the refused one are written, and the answer goes to standard error.
+// city records. A file is checked first and then read again, so that nothing of a refused one is written; its answer goes to standard error.
+use checking::Checked;
 use field::bytes::part;
 use libc::STDERR_FILENO;
 use libc::STDOUT_FILENO;
 use page::put_answer;
 use page::put_input;
+use page::put_text;
 use reading::State;
 use record::Record;
+use streams::Lines;
+use streams::Source;
+use telling::put_name;
 use writer::Entry;
 
-// A file so far: the answer to the last line, the reader's state after it and the writer's, how much of the page is filled, whether
-// there may be more to read, and whether reading or writing failed.
+// A file so far: the answer to the last line, the reader's state after it and the writer's, how much of the page is filled, whether it
+// was the last line, and whether all was read and written.
 struct Copied {
     answer: u8,
-    line: u64,
-    column: u8,
     reader: State,
     writer: State,
     at: usize,
-    more: bool,
-    failed: bool,
+    ended: bool,
+    done: bool,
 }
 
 // The record to write of a record that was read: none of a city.
@@ -81,8 +84,7 @@ fn entry_of(read: Record) -> Again {
     }
 }
 
-// A record onto the page, which has room for every line of a buffer. The writer refuses nothing here (docs/DECISIONS.md, 25); if it did,
-// its answer would be the file's.
+// A record onto the page, which has room for it. The writer refuses nothing here (docs/DECISIONS.md, 25).
 fn put_entry(before: Copied, entry: Entry, text: [u8; 35], page: &mut [u8]) -> Copied {
     let mut copied = before;
     let at = before.at;
@@ -93,8 +95,6 @@ fn put_entry(before: Copied, entry: Entry, text: [u8; 35], page: &mut [u8]) -> C
     let w = writer::write(state, entry, text, &mut page[at..]);
     if w.answer != 0 {
         copied.answer = w.answer;
-        copied.line = w.line;
-        copied.column = w.column;
         return copied;
     }
     let next = w.next;
@@ -103,7 +103,7 @@ fn put_entry(before: Copied, entry: Entry, text: [u8; 35], page: &mut [u8]) -> C
     copied
 }
 
-// One line of what the buffer holds.
+// One line of what the buffer holds, or the end.
 fn copy_line(before: Copied, rest: &[u8], page: &mut [u8]) -> Copied {
     let state = before.reader;
     let r = state.line(rest);
@@ -112,8 +112,6 @@ fn copy_line(before: Copied, rest: &[u8], page: &mut [u8]) -> Copied {
     let next = r.next;
     let mut copied = before;
     copied.answer = r.answer;
-    copied.line = r.line;
-    copied.column = r.column;
     copied.reader = next;
     let entry = entry_of(read);
     match entry {
@@ -122,107 +120,132 @@ fn copy_line(before: Copied, rest: &[u8], page: &mut [u8]) -> Copied {
     }
 }
 
-// The lines of a buffer, up to the first that is refused.
-fn copy_lines(before: Copied, bytes: &[u8], page: &mut [u8]) -> Copied {
+// Writes what is gathered, where the next line might not fit or there is none.
+fn make_room(before: Copied, page: &[u8]) -> Copied {
     let mut copied = before;
-    let mut i = 0;
-    while i < bytes.len() {
-        copied = copy_line(copied, part(bytes, i, 52), page);
-        if copied.answer != 0 {
-            return copied;
-        }
-        i += 52;
+    if copied.ended | (page.len() <= copied.at) {
+        let written = streams::told(io::write_all(STDOUT_FILENO, part(page, 0, copied.at)));
+        copied.done = copied.done & written;
+        copied.ended = copied.ended | !written;
+        copied.at = 0;
     }
     copied
 }
 
-// A buffer of 1,260 lines. It comes short at the end of the input only.
-fn copy_some(before: Copied, fd: i32, name: &[u8], page: &mut [u8]) -> Copied {
-    let mut buffer = [0u8; 65520];
-    let filled = streams::fill(fd, name, &mut buffer);
-    let n = filled.count;
-    let mut copied = copy_lines(before, &buffer[..n], page);
-    let printed = streams::told(io::write_all(STDOUT_FILENO, part(page, 0, copied.at)));
-    copied.at = 0;
-    copied.more = (n == 65520) & (copied.answer == 0) & printed;
-    copied.failed = filled.failed | !printed;
-    copied
+// The next line, or the end where there is none; whether all was read until there.
+fn copy_next(before: Copied, rest: &[u8], failed: bool, page: &mut [u8]) -> Copied {
+    let mut copied = copy_line(before, rest, page);
+    copied.ended = (copied.answer != 0) | (rest.len() == 0);
+    copied.done = !failed;
+    make_room(copied, page)
 }
 
-// The rest of the input. A proved loop has to end, so this one counts its turns down from a number that no run uses up.
-fn copy_rest(before: Copied, fd: i32, name: &[u8], page: &mut [u8]) -> Copied {
-    let mut copied = before;
+// The lines of a file that was accepted. (A proved loop has to end, so this one counts its turns down from a number that no run uses up.)
+fn copy_lines(start: Lines, fd: i32, name: &[u8], page: &mut [u8]) -> Copied {
+    let mut buffer = [0u8; 65520];
+    let mut lines = start;
+    let mut copied = unwritten();
     let mut turns = u64::MAX;
     while 0 < turns {
-        if copied.more {
-            copied = copy_some(copied, fd, name, page);
-        } else {
+        lines = lines.pulled(fd, name, &mut buffer);
+        copied = copy_next(copied, lines.line(&buffer), lines.failed, page);
+        if copied.ended {
             return copied;
         }
+        lines = lines.passed(52);
         turns -= 1;
     }
     copied
 }
 
-// Where no line was refused, the end of the file is answered.
-fn ended(copied: Copied, page: &mut [u8]) -> Copied {
-    if copied.answer == 0 {
-        copy_line(copied, b"", page)
-    } else {
-        copied
-    }
-}
-
-// Tells why a file was refused.
-fn tell(copied: Copied, name: &[u8], several: bool) {
-    if copied.answer == 0 {
-        return;
-    }
-    let mut page = [0u8; 8192];
-    let a = put_input(&mut page, name, several);
-    let b = put_answer(&mut page, a, copied.answer, copied.line, copied.column);
-    io::write_all(STDERR_FILENO, part(&page, 0, b));
-}
-
-fn copy_file(fd: i32, name: &[u8], several: bool, page: &mut [u8]) {
+fn unwritten() -> Copied {
     let reader = State::start();
     let writer = State::start();
-    let copied = Copied {
+    Copied {
         answer: 0,
-        line: 0,
-        column: 0,
         reader,
         writer,
         at: 0,
-        more: true,
-        failed: false,
-    };
-    let read = copy_rest(copied, fd, name, page);
-    if read.failed {
-        return;
+        ended: false,
+        done: true,
     }
-    tell(ended(read, page), name, several);
+}
+
+// Tells why a file was refused, and whether that could be told.
+fn is_told(checked: Checked, name: &[u8], several: bool) -> bool {
+    let mut page = [0u8; 8192];
+    let a = put_input(&mut page, name, several);
+    let b = put_answer(&mut page, a, checked.answer, checked.line, checked.column);
+    io::write_all(STDERR_FILENO, part(&page, 0, b))
+}
+
+// A file that was accepted is another one now.
+fn tell_changed(name: &[u8]) {
+    let mut page = [0u8; 8192];
+    let a = put_name(&mut page, 0, name);
+    let b = put_text(&mut page, a, b": it changed while it was read\n");
+    io::write_all(STDERR_FILENO, part(&page, 0, b));
+}
+
+// The second reading of an accepted file, and whether all of it was written.
+fn is_copied(source: Source, name: &[u8], page: &mut [u8]) -> bool {
+    let lines = streams::again(source, name);
+    let copied = copy_lines(lines, source.fd, name, page);
+    if copied.done {
+        if copied.answer != 0 {
+            tell_changed(name);
+        }
+    }
+    copied.done & (copied.answer == 0)
+}
+
+// A file that can be read twice.
+fn copy_source(source: Source, name: &[u8], several: bool, page: &mut [u8]) -> u8 {
+    let checked = checking::check(source.fd, name, page);
+    let lines = checked.lines;
+    if lines.failed {
+        return streams::status_of(checked.answer, false);
+    }
+    if checked.answer != 0 {
+        return streams::status_of(checked.answer, is_told(checked, name, several));
+    }
+    streams::status_of(0, is_copied(source, name, page))
+}
+
+fn copy_file(fd: i32, name: &[u8], several: bool, page: &mut [u8]) -> u8 {
+    let source = streams::rereadable(fd, name);
+    if source.fd < 0 {
+        return streams::status_of(0, false);
+    }
+    let status = copy_source(source, name, several, page);
+    if source.temporary {
+        libc::close(source.fd);
+    }
+    status
 }
 
 // The file of argument i, or standard input.
-fn copy_input(i: usize, several: bool, page: &mut [u8]) {
+fn copy_input(i: usize, several: bool, page: &mut [u8]) -> u8 {
     let mut name = io::buffer();
     let input = streams::open(i, &mut name);
     let n = input.characters;
-    if 0 <= input.fd {
-        copy_file(input.fd, &name[..n], several, page);
-        libc::close(input.fd);
+    if input.fd < 0 {
+        return streams::status_of(0, false);
     }
+    let status = copy_file(input.fd, &name[..n], several, page);
+    libc::close(input.fd);
+    status
 }
 
 fn main() {
     let mut page = [0u8; 65520];
     let arguments = os::arg_count();
     let several = 2 < arguments;
-    copy_input(1, several, &mut page);
+    let mut status = copy_input(1, several, &mut page);
     let mut i = 2;
     while i < arguments {
-        copy_input(i, several, &mut page);
+        status = streams::worse(status, copy_input(i, several, &mut page));
         i += 1;
     }
+    streams::end_with(status);
 }

@@ -9,6 +9,7 @@ use page::put_text;
 use record::kinds::code_of;
 use streams::Lines;
 use telling::put_field;
+use telling::put_name;
 use telling::put_words;
 
 // A line up to its end, so far: its bytes, the last of them, whether the end was met, and whether a read failed.
@@ -144,13 +145,6 @@ fn shown(answer: u8, line: &[u8]) -> LineShown {
     LineShown { code, text, count }
 }
 
-fn put_name(page: &mut [u8], name: &[u8]) -> usize {
-    if name.len() == 0 {
-        return put_text(page, 0, b"standard input");
-    }
-    put_text(page, 0, name)
-}
-
 // Which field it is, where the line's record is one of 01's; every other is refused at its code.
 fn put_field_in(page: &mut [u8], at: usize, code: Code, column: u8) -> usize {
     match code {
@@ -236,7 +230,7 @@ fn put_acceptance(page: &mut [u8], at: usize, lines: u64) -> usize {
 // What is printed of a file, and whether that was done.
 fn is_said(checked: Checked, line: LineShown, m: Extent, name: &[u8]) -> bool {
     let mut page = [0u8; 8192];
-    let a = put_name(&mut page, name);
+    let a = put_name(&mut page, 0, name);
     if checked.answer == 0 {
         let b = put_acceptance(&mut page, a, checked.line);
         return streams::told(io::write_all(STDOUT_FILENO, part(&page, 0, b)));

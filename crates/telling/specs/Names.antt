@@ -1,7 +1,8 @@
--- The names of fields (01, 'Record table'), and which of them stands at a column.
+-- The names of fields (01, 'Record table'), and which of them stands at a column; the name of an input.
 use Prim.Native.Nat.{ℕ, _+_}
 use Prim.Native.String.{String}
 use mathlib.Core.List.{List, [], _∷_}
+use lib.ListN.{length}
 use lib.Dec.{eqb}
 use Rattle.machine.specs.Lists.{pick}
 use Rattle.format.specs.Fields.{Field, width}
@@ -42,3 +43,7 @@ nameIn k column = nameFrom 6 (layout k) (names k) column
 -- THE NAME of the field that a refusal's column names
 unfoldable pub fieldName : Kind → ℕ → List ℕ
 fieldName k column = pick (eqb column 1) (bytesOf "code and variant") (nameIn k column)
+
+-- THE NAME of an input, which is empty for standard input
+unfoldable pub inputName : List ℕ → List ℕ
+inputName name = pick (eqb (length name) 0) (bytesOf "standard input") name

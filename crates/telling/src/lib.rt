@@ -6,8 +6,10 @@ ghost use Rattle.telling.specs.Words.{ofFields, ofCallers, wordsBy, word
 use page::put_text;
 
 mod fields;
+mod inputs;
 
 pub use fields::put_field;
+pub use inputs::put_name;
 
 // The answers that only callers of the library meet, and acceptance.
 fn put_words_of_callers(page: &mut [u8], at: usize, answer: u8) -> usize
