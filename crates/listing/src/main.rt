@@ -9,17 +9,18 @@ use page::put_number;
 use reading::State;
 use record::Record;
 use record::types::group_text;
+use streams::Lines;
 
-// The listing so far: the answer to the last line, the state after it, how much is gathered, whether there may be more to read,
-// and whether a read failed.
+// The listing so far: the answer to the last line, the state after it, how much is gathered, whether it was the last line, and whether
+// all was read and written.
 struct Listed {
     answer: u8,
     line: u64,
     column: u8,
     state: State,
     at: usize,
-    more: bool,
-    failed: bool,
+    ended: bool,
+    done: bool,
 }
 
 fn put_header(
@@ -70,131 +71,113 @@ fn put_record(page: &mut [u8], at: usize, state: State, read: Record, sender: &[
     }
 }
 
-// Writes what is gathered where the next record might not fit.
-fn make_room(page: &[u8], at: usize) -> usize {
-    if at <= page.len() {
-        if page.len() - at < 512 {
-            streams::told(io::write_all(STDOUT_FILENO, part(page, 0, at)));
-            return 0;
-        }
+// Whether a record's lines might not fit any more.
+fn is_full(size: usize, at: usize) -> bool {
+    if size < at {
+        return true;
     }
-    at
+    size - at < 512
 }
 
-// One line of what the buffer holds.
-fn list_line(before: Listed, rest: &[u8], page: &mut [u8]) -> Listed {
-    let state = before.state;
-    let room = make_room(page, before.at);
+// Writes what is gathered where the page is full.
+fn make_room(before: Listed, page: &[u8]) -> Listed {
+    let mut listed = before;
+    if is_full(page.len(), listed.at) {
+        let written = streams::told(io::write_all(STDOUT_FILENO, part(page, 0, listed.at)));
+        listed.done = listed.done & written;
+        listed.at = 0;
+    }
+    listed
+}
+
+// One line of what the buffer holds, or the end where there is none; whether all was read until there.
+fn list_line(before: Listed, rest: &[u8], failed: bool, page: &mut [u8]) -> Listed {
+    let mut listed = make_room(before, page);
+    let state = listed.state;
     let r = state.line(rest);
     let read = r.read;
     let text = r.text;
     let next = r.next;
-    let at = put_record(page, room, state, read, part(&text, 0, 5));
-    Listed {
-        answer: r.answer,
-        line: r.line,
-        column: r.column,
-        state: next,
-        at,
-        more: true,
-        failed: false,
-    }
-}
-
-// The lines of a buffer, up to the first that is refused.
-fn list_lines(before: Listed, bytes: &[u8], page: &mut [u8]) -> Listed {
-    let mut listed = before;
-    let mut i = 0;
-    while i < bytes.len() {
-        listed = list_line(listed, part(bytes, i, 52), page);
-        if listed.answer != 0 {
-            return listed;
-        }
-        i += 52;
-    }
+    listed.at = put_record(page, listed.at, state, read, part(&text, 0, 5));
+    listed.answer = r.answer;
+    listed.line = r.line;
+    listed.column = r.column;
+    listed.state = next;
+    listed.done = listed.done & !failed;
+    listed.ended = (r.answer != 0) | (rest.len() == 0) | !listed.done;
     listed
 }
 
-// A buffer of 1,260 lines. It comes short at the end of the input only.
-fn list_some(before: Listed, fd: i32, name: &[u8], page: &mut [u8]) -> Listed {
+// The lines of an input, up to the first that is refused. (A proved loop has to end, so this one counts its turns down from a number that no
+// run uses up.)
+fn list_lines(before: Listed, fd: i32, name: &[u8], page: &mut [u8]) -> Listed {
     let mut buffer = [0u8; 65520];
-    let filled = streams::fill(fd, name, &mut buffer);
-    let n = filled.count;
-    let mut listed = list_lines(before, &buffer[..n], page);
-    listed.more = (n == 65520) & (listed.answer == 0);
-    listed.failed = filled.failed;
-    listed
-}
-
-// The rest of the input. A proved loop has to end, so this one counts its turns down from a number that no run uses up.
-fn list_rest(before: Listed, fd: i32, name: &[u8], page: &mut [u8]) -> Listed {
+    let mut lines = Lines::start();
     let mut listed = before;
     let mut turns = u64::MAX;
     while 0 < turns {
-        if listed.more {
-            listed = list_some(listed, fd, name, page);
-        } else {
+        lines = lines.pulled(fd, name, &mut buffer);
+        listed = list_line(listed, lines.line(&buffer), lines.failed, page);
+        if listed.ended {
             return listed;
         }
+        lines = lines.passed(52);
         turns -= 1;
     }
     listed
 }
 
-// Where no line was refused, the end of the file is answered.
-fn ended(listed: Listed, page: &mut [u8]) -> Listed {
-    if listed.answer == 0 {
-        list_line(listed, b"", page)
-    } else {
-        listed
-    }
-}
-
-fn put_end(listed: Listed, page: &mut [u8]) -> usize {
-    let room = make_room(page, listed.at);
-    put_answer(page, room, listed.answer, listed.line, listed.column)
-}
-
-fn list_file(fd: i32, name: &[u8], several: bool, page: &mut [u8]) {
+fn unlisted(at: usize) -> Listed {
     let state = State::start();
-    let at = put_input(page, name, several);
-    let listed = Listed {
+    Listed {
         answer: 0,
         line: 0,
         column: 0,
         state,
         at,
-        more: true,
-        failed: false,
-    };
-    let read = list_rest(listed, fd, name, page);
-    if read.failed {
-        return;
+        ended: false,
+        done: true,
     }
-    let end = ended(read, page);
-    let at = put_end(end, page);
-    streams::told(io::write_all(STDOUT_FILENO, part(page, 0, at)));
+}
+
+// The answer, after what is gathered; whether all was written.
+fn is_answered(listed: Listed, page: &mut [u8]) -> bool {
+    let end = put_answer(page, listed.at, listed.answer, listed.line, listed.column);
+    streams::told(io::write_all(STDOUT_FILENO, part(page, 0, end)))
+}
+
+fn list_file(fd: i32, name: &[u8], several: bool, page: &mut [u8]) -> u8 {
+    let at = put_input(page, name, several);
+    let read = list_lines(unlisted(at), fd, name, page);
+    let listed = make_room(read, page);
+    if listed.done {
+        return streams::status_of(listed.answer, is_answered(listed, page));
+    }
+    streams::status_of(listed.answer, false)
 }
 
 // The file of argument i, or standard input.
-fn list_input(i: usize, several: bool, page: &mut [u8]) {
+fn list_input(i: usize, several: bool, page: &mut [u8]) -> u8 {
     let mut name = io::buffer();
     let input = streams::open(i, &mut name);
     let n = input.characters;
-    if 0 <= input.fd {
-        list_file(input.fd, &name[..n], several, page);
-        libc::close(input.fd);
+    if input.fd < 0 {
+        return streams::status_of(0, false);
     }
+    let status = list_file(input.fd, &name[..n], several, page);
+    libc::close(input.fd);
+    status
 }
 
 fn main() {
     let mut page = [0u8; 8192];
     let arguments = os::arg_count();
     let several = 2 < arguments;
-    list_input(1, several, &mut page);
+    let mut status = list_input(1, several, &mut page);
     let mut i = 2;
     while i < arguments {
-        list_input(i, several, &mut page);
+        status = streams::worse(status, list_input(i, several, &mut page));
         i += 1;
     }
+    streams::end_with(status);
 }

@@ -6,10 +6,10 @@ use Rattle.listing.proofs.main.Statement.{statement}
 use Rattle.listing.proofs.main.Tie as tie
 
 abbrev Inv-loop : tie.InvT-loop
-Inv-loop page₀ arguments several i₀ page i = length page ≡ 8192
+Inv-loop page₀ arguments several status₀ i₀ page status i = length page ≡ 8192
 
 abbrev μ-loop : tie.MeasureT-loop
-μ-loop page₀ arguments several i₀ page i = arguments - i
+μ-loop page₀ arguments several status₀ i₀ page status i = arguments - i
 
 pub main-spec : {M : Type 1} → statement M
 main-spec =
@@ -23,8 +23,10 @@ main-spec =
     (λ c. search needs)  -- loop-holds
     (λ c. search needs)  -- slice-aggregate-list-input-2
     (λ c κs. search needs)  -- list-input-requires-2
+    (λ c κs. search needs)  -- worse-requires
     (λ c. search needs)  -- add-i
     (λ c. search needs)  -- loop-less
     (λ c. search needs)  -- loop-again
+    (λ c κs. search needs)  -- end-with-requires
     (λ c. search needs)  -- returns
     )
