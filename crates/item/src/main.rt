@@ -16,19 +16,16 @@ use page::put_number;
 use reading::Answer;
 use reading::State;
 use record::types::type_text;
+use streams::Lines;
 
-// A file so far: the answer to the last line, and the state after it.
-struct Checked {
+// A search so far: the answer to the last line of the file, the state after it, what was found, whether it was the last line, and whether
+// all was read.
+struct Sought {
     answer: Answer,
     state: State,
-}
-
-// A search so far: the file, the item sought in it, whether there may be more to read, and whether a read failed.
-struct Sought {
-    file: Checked,
     search: Search,
-    more: bool,
-    failed: bool,
+    ended: bool,
+    done: bool,
 }
 
 fn put_numbers(page: &mut [u8], at: usize, fields: ItemFields) -> usize {
@@ -65,124 +62,96 @@ fn put_item(page: &mut [u8], at: usize, fields: ItemFields, texts: &[u8]) -> usi
     }
 }
 
-fn check_line(before: Checked, rest: &[u8]) -> Checked {
+// One line of what the buffer holds, or the end where there is none; whether all was read until there.
+fn seek_line(before: Sought, rest: &[u8], failed: bool) -> Sought {
     let state = before.state;
     let r = state.line(rest);
     let next = r.next;
+    let so_far = before.search;
+    let search = so_far.lines(rest);
     let answer = Answer {
         number: r.answer,
         line: r.line,
         column: r.column,
     };
-    Checked {
+    Sought {
         answer,
         state: next,
-    }
-}
-
-// The lines of a buffer, up to the first that is refused.
-fn check_lines(before: Checked, bytes: &[u8]) -> Checked {
-    let mut file = before;
-    let mut i = 0;
-    while i < bytes.len() {
-        file = check_line(file, part(bytes, i, 52));
-        if file.answer.number != 0 {
-            return file;
-        }
-        i += 52;
-    }
-    file
-}
-
-// A buffer of 1,260 lines. It comes short at the end of the input only.
-fn seek_some(before: Sought, fd: i32, name: &[u8]) -> Sought {
-    let mut buffer = [0u8; 65520];
-    let filled = streams::fill(fd, name, &mut buffer);
-    let n = filled.count;
-    let so_far = before.file;
-    let sought = before.search;
-    let file = check_lines(so_far, &buffer[..n]);
-    let search = sought.lines(&buffer[..n]);
-    let more = (n == 65520) & (file.answer.number == 0);
-    Sought {
-        file,
         search,
-        more,
-        failed: filled.failed,
+        ended: (r.answer != 0) | (rest.len() == 0),
+        done: !failed,
     }
 }
 
-// The rest of the input. A proved loop has to end, so this one counts its turns down from a number that no run uses up.
-fn seek_rest(before: Sought, fd: i32, name: &[u8]) -> Sought {
+// The lines of an input, up to the first that is refused. (A proved loop has to end, so this one counts its turns down from a number that no
+// run uses up.)
+fn seek_lines(before: Sought, fd: i32, name: &[u8]) -> Sought {
+    let mut buffer = [0u8; 65520];
+    let mut lines = Lines::start();
     let mut sought = before;
     let mut turns = u64::MAX;
     while 0 < turns {
-        if sought.more {
-            sought = seek_some(sought, fd, name);
-        } else {
+        lines = lines.pulled(fd, name, &mut buffer);
+        sought = seek_line(sought, lines.line(&buffer), lines.failed);
+        if sought.ended {
             return sought;
         }
+        lines = lines.passed(52);
         turns -= 1;
     }
     sought
 }
 
-// Where no line was refused, the end of the file is answered.
-fn ended(file: Checked) -> Answer {
-    let answer = file.answer;
-    if answer.number != 0 {
-        return answer;
-    }
-    let end = check_line(file, b"");
-    end.answer
-}
-
-fn print_found(found: ItemRead, texts: &[u8], name: &[u8], several: bool) {
+// What is printed of a file, and whether that was done.
+fn is_printed(found: ItemRead, texts: &[u8], name: &[u8], several: bool) -> bool {
     let mut page = [0u8; 8192];
     let fields = found.fields;
     let a = put_input(&mut page, name, several);
     let b = put_item(&mut page, a, fields, texts);
     let c = put_answer(&mut page, b, found.answer, found.line, found.column);
-    streams::told(io::write_all(STDOUT_FILENO, part(&page, 0, c)));
+    streams::told(io::write_all(STDOUT_FILENO, part(&page, 0, c)))
 }
 
-fn start(search: Search) -> Sought {
+fn unsought(search: Search) -> Sought {
     let state = State::start();
     let answer = Answer {
         number: 0,
         line: 0,
         column: 0,
     };
-    let file = Checked { answer, state };
     Sought {
-        file,
+        answer,
+        state,
         search,
-        more: true,
-        failed: false,
+        ended: false,
+        done: true,
     }
 }
 
-fn seek_in_file(fd: i32, name: &[u8], several: bool, wanted: Search) {
-    let sought = seek_rest(start(wanted), fd, name);
-    if sought.failed {
-        return;
-    }
-    let file = sought.file;
+fn seek_in_file(fd: i32, name: &[u8], several: bool, wanted: Search) -> u8 {
+    let sought = seek_lines(unsought(wanted), fd, name);
+    let answer = sought.answer;
     let search = sought.search;
-    let mut texts = [32u8; 128];
-    let found = search.answered(ended(file), &mut texts);
-    print_found(found, &texts, name, several);
+    if sought.done {
+        let mut texts = [32u8; 128];
+        let found = search.answered(answer, &mut texts);
+        let printed = is_printed(found, &texts, name, several);
+        return streams::status_of(found.answer, printed);
+    }
+    streams::status_of(answer.number, false)
 }
 
 // The file of argument i, or standard input.
-fn seek_in_input(i: usize, several: bool, wanted: Search) {
+fn seek_in_input(i: usize, several: bool, wanted: Search) -> u8 {
     let mut name = io::buffer();
     let input = streams::open(i, &mut name);
     let n = input.characters;
-    if 0 <= input.fd {
-        seek_in_file(input.fd, &name[..n], several, wanted);
-        libc::close(input.fd);
+    if input.fd < 0 {
+        return streams::status_of(0, false);
     }
+    let status = seek_in_file(input.fd, &name[..n], several, wanted);
+    libc::close(input.fd);
+    status
 }
 
 // A number with one more digit. Beyond 17 digits it stays as large as it is: no file has so many batches or items.
@@ -212,27 +181,32 @@ fn number(i: usize) -> Digits {
     Digits { ok, value }
 }
 
-fn seek(batch: u64, item: u64) {
+fn seek(batch: u64, item: u64) -> u8 {
     let arguments = os::arg_count();
     let wanted = Search::start(batch, item);
     let several = 4 < arguments;
-    seek_in_input(3, several, wanted);
+    let mut status = seek_in_input(3, several, wanted);
     let mut i = 4;
     while i < arguments {
-        seek_in_input(i, several, wanted);
+        status = streams::worse(status, seek_in_input(i, several, wanted));
         i += 1;
     }
+    status
 }
 
-fn main() {
+fn seek_asked() -> u8 {
     let batch = number(1);
     let item = number(2);
     if batch.ok & item.ok {
-        seek(batch.value, item.value);
-    } else {
-        io::write_all(
-            STDERR_FILENO,
-            b"usage: item B K [FILE..], where B and K are numbers\n",
-        );
+        return seek(batch.value, item.value);
     }
+    io::write_all(
+        STDERR_FILENO,
+        b"usage: clieop item B K [FILE..], where B and K are numbers\n",
+    );
+    streams::status_of(0, false)
+}
+
+fn main() {
+    streams::end_with(seek_asked());
 }

@@ -4,10 +4,10 @@ use Rattle.item.proofs.seek.Statement.{statement}
 use Rattle.item.proofs.seek.Tie as tie
 
 abbrev Inv-loop : tie.InvT-loop
-Inv-loop batch item arguments wanted several i₀ i = Unit {0}
+Inv-loop batch item arguments wanted several status₀ i₀ status i = Unit {0}
 
 abbrev μ-loop : tie.MeasureT-loop
-μ-loop batch item arguments wanted several i₀ i = arguments - i
+μ-loop batch item arguments wanted several status₀ i₀ status i = arguments - i
 
 pub seek-spec : {M : Type 1} → statement M
 seek-spec =
@@ -20,6 +20,7 @@ seek-spec =
     (λ c κs. search needs)  -- seek-in-input-requires
     (λ c. search needs)  -- loop-holds
     (λ c κs. search needs)  -- seek-in-input-requires-2
+    (λ c κs. search needs)  -- worse-requires
     (λ c. search needs)  -- add-i
     (λ c. search needs)  -- loop-less
     (λ c. search needs)  -- loop-again
