@@ -1,6 +1,7 @@
 //! The paper's record table with the answers that each field can give, and
 //! the order of records: every answer a file can meet. The generator aims at
-//! each and the coverage asks whether each was met. The reader doesn't use it.
+//! each and the coverage asks whether each was met. The reader doesn't use it;
+//! the report takes the names of fields from it.
 
 use std::fmt;
 
@@ -36,6 +37,8 @@ pub struct Field {
     pub code: &'static str,
     pub column: usize,
     pub width: usize,
+    /// As the paper's table has it.
+    pub name: &'static str,
     pub class: Class,
     pub answers: &'static [u8],
 }
@@ -44,75 +47,86 @@ const fn field(
     code: &'static str,
     column: usize,
     width: usize,
+    name: &'static str,
     class: Class,
     answers: &'static [u8],
 ) -> Field {
-    Field { code, column, width, class, answers }
+    Field { code, column, width, name, class, answers }
 }
 
 /// 4 is the form, which every field has; 5 stands where some value of a good
 /// form is wrong by itself. The rest is said with the field.
 pub const FIELDS: [Field; 45] = [
-    field("0001A", 6, 6, Class::Date, &[4, 5]),
-    field("0001A", 12, 8, Class::FileName, &[4, 5]),
-    field("0001A", 20, 5, Class::Text, &[4]),
+    field("0001A", 6, 6, "creation date", Class::Date, &[4, 5]),
+    field("0001A", 12, 8, "file name", Class::FileName, &[4, 5]),
+    field("0001A", 20, 5, "sender", Class::Text, &[4]),
     // "another day is 7"
-    field("0001A", 25, 4, Class::Identification, &[4, 5, 7]),
-    field("0001A", 29, 1, Class::Duplicate, &[4, 5]),
-    field("0001A", 30, 21, Class::Filler, &[4]),
+    field("0001A", 25, 4, "identification", Class::Identification, &[4, 5, 7]),
+    field("0001A", 29, 1, "duplicate code", Class::Duplicate, &[4, 5]),
+    field("0001A", 30, 21, "filler", Class::Filler, &[4]),
     // 7: "the same throughout the file"
-    field("0010B", 6, 2, Class::Group, &[4, 5, 7]),
+    field("0010B", 6, 2, "group", Class::Group, &[4, 5, 7]),
     // 6: also "The ordering account is never a seven-digit one"
-    field("0010B", 8, 10, Class::OwnAccount, &[4, 5, 6]),
+    field("0010B", 8, 10, "ordering account", Class::OwnAccount, &[4, 5, 6]),
     // 7: "the number before it plus one"
-    field("0010B", 18, 4, Class::Sequence, &[4, 5, 7]),
-    field("0010B", 22, 3, Class::Currency, &[4, 5]),
+    field("0010B", 18, 4, "sequence", Class::Sequence, &[4, 5, 7]),
+    field("0010B", 22, 3, "currency", Class::Currency, &[4, 5]),
     // "blank for variant B, filled for C"; against the rule is 4
-    field("0010B", 25, 16, Class::BatchIdentification, &[4]),
-    field("0010B", 41, 10, Class::Filler, &[4]),
-    field("0010C", 6, 2, Class::Group, &[4, 5, 7]),
-    field("0010C", 8, 10, Class::OwnAccount, &[4, 5, 6]),
-    field("0010C", 18, 4, Class::Sequence, &[4, 5, 7]),
-    field("0010C", 22, 3, Class::Currency, &[4, 5]),
-    field("0010C", 25, 16, Class::BatchIdentification, &[4]),
-    field("0010C", 41, 10, Class::Filler, &[4]),
-    field("0020A", 6, 32, Class::Text, &[4]),
-    field("0020A", 38, 13, Class::Filler, &[4]),
+    field("0010B", 25, 16, "batch identification", Class::BatchIdentification, &[4]),
+    field("0010B", 41, 10, "filler", Class::Filler, &[4]),
+    field("0010C", 6, 2, "group", Class::Group, &[4, 5, 7]),
+    field("0010C", 8, 10, "ordering account", Class::OwnAccount, &[4, 5, 6]),
+    field("0010C", 18, 4, "sequence", Class::Sequence, &[4, 5, 7]),
+    field("0010C", 22, 3, "currency", Class::Currency, &[4, 5]),
+    field("0010C", 25, 16, "batch identification", Class::BatchIdentification, &[4]),
+    field("0010C", 41, 10, "filler", Class::Filler, &[4]),
+    field("0020A", 6, 32, "text", Class::Text, &[4]),
+    field("0020A", 38, 13, "filler", Class::Filler, &[4]),
     // 7: "and 1 in group 10"
-    field("0030B", 6, 1, Class::NameCode, &[4, 5, 7]),
+    field("0030B", 6, 1, "name code", Class::NameCode, &[4, 5, 7]),
     // 5: zeros are taken here, but not a date outside the calendar
-    field("0030B", 7, 6, Class::Date, &[4, 5]),
-    field("0030B", 13, 35, Class::OrderingName, &[4]),
-    field("0030B", 48, 1, Class::TestCode, &[4, 5]),
-    field("0030B", 49, 2, Class::Filler, &[4]),
+    field("0030B", 7, 6, "desired date", Class::Date, &[4, 5]),
+    field("0030B", 13, 35, "name", Class::OrderingName, &[4]),
+    field("0030B", 48, 1, "test code", Class::TestCode, &[4, 5]),
+    field("0030B", 49, 2, "filler", Class::Filler, &[4]),
     // "a type of the other group 7"
-    field("0100A", 6, 4, Class::Type, &[4, 5, 7]),
+    field("0100A", 6, 4, "type", Class::Type, &[4, 5, 7]),
     // its 8 is in LIMITS
-    field("0100A", 10, 12, Class::Amount, &[4, 5]),
+    field("0100A", 10, 12, "amount", Class::Amount, &[4, 5]),
     // 7: "Payer (group 00) or beneficiary (group 10) equals the ordering account"
-    field("0100A", 22, 10, Class::Account, &[4, 5, 6, 7]),
-    field("0100A", 32, 10, Class::Account, &[4, 5, 6, 7]),
-    field("0100A", 42, 9, Class::Filler, &[4]),
-    field("0110B", 6, 35, Class::Text, &[4]),
-    field("0110B", 41, 10, Class::Filler, &[4]),
+    field("0100A", 22, 10, "payer", Class::Account, &[4, 5, 6, 7]),
+    field("0100A", 32, 10, "beneficiary", Class::Account, &[4, 5, 6, 7]),
+    field("0100A", 42, 9, "filler", Class::Filler, &[4]),
+    field("0110B", 6, 35, "name", Class::Text, &[4]),
+    field("0110B", 41, 10, "filler", Class::Filler, &[4]),
     // 4: "anything from 32 to 126"
-    field("0113B", 6, 45, Class::City, &[4]),
-    field("0150A", 6, 16, Class::Text, &[4]),
-    field("0150A", 22, 29, Class::Filler, &[4]),
-    field("0160A", 6, 32, Class::Text, &[4]),
-    field("0160A", 38, 13, Class::Filler, &[4]),
-    field("0170B", 6, 35, Class::Text, &[4]),
-    field("0170B", 41, 10, Class::Filler, &[4]),
-    field("0173B", 6, 45, Class::City, &[4]),
+    field("0113B", 6, 45, "city", Class::City, &[4]),
+    field("0150A", 6, 16, "text", Class::Text, &[4]),
+    field("0150A", 22, 29, "filler", Class::Filler, &[4]),
+    field("0160A", 6, 32, "text", Class::Text, &[4]),
+    field("0160A", 38, 13, "filler", Class::Filler, &[4]),
+    field("0170B", 6, 35, "name", Class::Text, &[4]),
+    field("0170B", 41, 10, "filler", Class::Filler, &[4]),
+    field("0173B", 6, 45, "city", Class::City, &[4]),
     // 5: zero, or "above the batch's maximum total"
-    field("9990A", 6, 18, Class::TotalAmount, &[4, 5, 9]),
+    field("9990A", 6, 18, "total amount", Class::TotalAmount, &[4, 5, 9]),
     // no 5: "total accounts may be zero", and ten digits are its maximum
-    field("9990A", 24, 10, Class::TotalAccounts, &[4, 9]),
+    field("9990A", 24, 10, "total accounts", Class::TotalAccounts, &[4, 9]),
     // 5: zero, or "above 100,000 items"
-    field("9990A", 34, 7, Class::Items, &[4, 5, 9]),
-    field("9990A", 41, 10, Class::Filler, &[4]),
-    field("9999A", 6, 45, Class::Filler, &[4]),
+    field("9990A", 34, 7, "items", Class::Items, &[4, 5, 9]),
+    field("9990A", 41, 10, "filler", Class::Filler, &[4]),
+    field("9999A", 6, 45, "filler", Class::Filler, &[4]),
 ];
+
+/// The name of what begins at this column of a line with this code and
+/// variant; none where nothing does. Column 1 is the same of any line.
+pub fn field_name(line: &[u8], column: usize) -> Option<&'static str> {
+    if column == 1 {
+        return Some("code and variant");
+    }
+    let begins = |field: &&Field| field.column == column && line.starts_with(field.code.as_bytes());
+    FIELDS.iter().find(begins).map(|field| field.name)
+}
 
 /// Columns of an 8: "item 100,001, column 1; batch total above its maximum,
 /// column 10".
@@ -211,6 +225,65 @@ pub fn reachable() -> Vec<Met> {
 #[cfg(test)]
 mod tests {
     use super::*;
+
+    /// Names and widths as the paper lists them; a city has no name there but
+    /// its record's.
+    const PAPER: [(&str, &str); 11] = [
+        (
+            "0001A",
+            "creation date 6, file name 8, sender 5, identification 4, duplicate code 1, filler 21",
+        ),
+        (
+            "0010B 0010C",
+            "group 2, ordering account 10, sequence 4, currency 3, batch identification 16, \
+             filler 10",
+        ),
+        ("0020A", "text 32, filler 13"),
+        ("0030B", "name code 1, desired date 6, name 35, test code 1, filler 2"),
+        ("0100A", "type 4, amount 12, payer 10, beneficiary 10, filler 9"),
+        ("0110B 0170B", "name 35, filler 10"),
+        ("0113B 0173B", "city 45"),
+        ("0150A", "text 16, filler 29"),
+        ("0160A", "text 32, filler 13"),
+        ("9990A", "total amount 18, total accounts 10, items 7, filler 10"),
+        ("9999A", "filler 45"),
+    ];
+
+    /// The name at each column, of a record with these fields.
+    fn named(fields: &'static str) -> [Option<&'static str>; 60] {
+        let mut names = [None; 60];
+        names[1] = Some("code and variant");
+        let mut column = 6;
+        for (name, width) in fields.split(", ").map(|field| field.rsplit_once(' ').unwrap()) {
+            names[column] = Some(name);
+            column += width.parse::<usize>().unwrap();
+        }
+        assert_eq!(column, 51);
+        names
+    }
+
+    #[test]
+    fn every_field_of_the_paper_has_its_name() {
+        let mut records = 0;
+        for (codes, fields) in PAPER {
+            for code in codes.split(' ') {
+                records += 1;
+                for (column, name) in named(fields).into_iter().enumerate() {
+                    assert_eq!(field_name(code.as_bytes(), column), name, "{code} {column}");
+                }
+            }
+        }
+        assert_eq!(records, CODES.len());
+    }
+
+    #[test]
+    fn other_lines_have_a_code_and_variant_alone() {
+        for line in [&b""[..], b"0001", b"0001B", b"1234A", b"\n\n\n\n\n", &[0; 50], &[255; 50]] {
+            assert_eq!(field_name(line, 1), Some("code and variant"));
+            assert!((0..60).filter(|&column| column != 1).all(|n| field_name(line, n).is_none()));
+            assert_eq!(field_name(line, usize::MAX), None);
+        }
+    }
 
     #[test]
     fn the_widths_of_each_record_add_up() {
