@@ -181,7 +181,7 @@ impl LineBuilder {
 pub struct Rewritten {
     /// The reader's answer for the file read.
     pub answer: Answer,
-    /// The lines before the refused one, or all, without city records.
+    /// Its lines without city records; of a refused file nothing.
     pub bytes: Vec<u8>,
 }
 
@@ -204,6 +204,7 @@ pub fn rewrite(file: &[u8]) -> Rewritten {
             }
         }
     });
-    bytes.truncate(filled);
-    Rewritten { answer: read.unwrap_or_else(|refused_by_writer| refused_by_writer), bytes }
+    let answer = read.unwrap_or_else(|refused_by_writer| refused_by_writer);
+    bytes.truncate(if answer.is_accepted() { filled } else { 0 });
+    Rewritten { answer, bytes }
 }

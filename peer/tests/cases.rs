@@ -287,10 +287,8 @@ fn rewriting_a_refused_file() {
     let mut whole = file(&EXAMPLE);
     assert_eq!(rewrite(&whole), Rewritten { answer: answer(0, 9, 0), bytes: whole.clone() });
     whole[6 * 52 + 45] = b'x';
-    let expected = Rewritten { answer: answer(4, 7, 41), bytes: whole[..6 * 52].to_vec() };
-    assert_eq!(rewrite(&whole), expected);
+    assert_eq!(rewrite(&whole), Rewritten { answer: answer(4, 7, 41), bytes: vec![] });
     let mut longer = file(&EXAMPLE);
     longer.extend(b"\r\n");
-    let expected = Rewritten { answer: answer(11, 10, 0), bytes: file(&EXAMPLE) };
-    assert_eq!(rewrite(&longer), expected);
+    assert_eq!(rewrite(&longer), Rewritten { answer: answer(11, 10, 0), bytes: vec![] });
 }

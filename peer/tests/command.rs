@@ -104,18 +104,16 @@ fn rewriting_names_refused_files_only() {
     let text = |lines: &[&str]| String::from_utf8(file(lines)).unwrap();
     assert_eq!(
         said(&["rewrite", &whole, &cut, &whole], b""),
-        (
-            [text(&EXAMPLE), text(&EXAMPLE[..7]), text(&EXAMPLE)].concat(),
-            format!("input={cut}\n{LACKING}")
-        )
+        (text(&EXAMPLE).repeat(2), format!("input={cut}\n{LACKING}"))
     );
-    let alone = (text(&EXAMPLE[..7]), LACKING.to_string());
+    let alone = (String::new(), LACKING.to_string());
     assert_eq!(said(&["rewrite", &cut], b""), alone);
     assert_eq!(said(&["rewrite"], &file(&EXAMPLE[..7])), alone);
-    // City records are left out, before a refusal too.
-    let lines = [&EXAMPLE[..7], &["0173BUTRECHT"], &EXAMPLE[7..8]].concat();
-    let again = (text(&EXAMPLE[..8]), "answer=10\nline=10\ncolumn=0\n".to_string());
-    assert_eq!(said(&["rewrite"], &file(&lines)), again);
+    // City records are left out; the answer counts them.
+    let lines = [&EXAMPLE[..7], &["0173BUTRECHT"], &EXAMPLE[7..]].concat();
+    assert_eq!(said(&["rewrite"], &file(&lines)), (text(&EXAMPLE), String::new()));
+    let again = (String::new(), "answer=10\nline=10\ncolumn=0\n".to_string());
+    assert_eq!(said(&["rewrite"], &file(&lines[..9])), again);
 }
 
 #[test]
