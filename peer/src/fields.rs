@@ -70,7 +70,7 @@ impl<const N: usize> Field<'_, N> {
 
     /// Any characters from 32 to 126.
     pub fn printable(&self) -> Result<[u8; N], Fault> {
-        if self.bytes.iter().all(|byte| (32..=126).contains(byte)) {
+        if self.bytes.iter().all(|&byte| is_printable(byte)) {
             Ok(*self.bytes)
         } else {
             Err(self.fault(number::FORM))
@@ -159,6 +159,11 @@ impl Field<'_, 10> {
         self.require(account > 9_999_999, number::ACCOUNT)?;
         Ok(account)
     }
+}
+
+/// May this byte stand in an alphanumeric field?
+pub(crate) fn is_printable(byte: u8) -> bool {
+    (32..=126).contains(&byte)
 }
 
 /// The eleven check: as ten digits with weights 10 down to 1, the weighted

@@ -5,6 +5,7 @@
 //! says what was chosen and which sentence led there.
 //!
 //! * [`check`] reads a whole file and gives one answer;
+//! * [`report`] says it in words, with the line refused;
 //! * [`State::line`] reads one line and gives the next state;
 //! * [`list`] prints the listing;
 //! * [`item`] hands out one item of one batch;
@@ -19,6 +20,7 @@ mod items;
 mod listing;
 mod order;
 mod records;
+mod report;
 mod state;
 pub mod table;
 mod writer;
@@ -32,5 +34,6 @@ pub use records::{
     Batch, BatchHeader, BatchTrailer, FileHeader, Group, OrderingParty, Record, TestCode,
     Transaction, TransactionType, Variant,
 };
+pub use report::report;
 pub use state::{LineRead, Place, State, LINE_LENGTH, LONGEST_FILE};
 pub use writer::{rewrite, Entry, Rewritten, Writer, Written};
