@@ -8,7 +8,7 @@
 //! * [`report`] says it in words, with the line refused;
 //! * [`State::line`] reads one line and gives the next state;
 //! * [`list`] prints the listing;
-//! * [`item`] hands out one item of one batch;
+//! * [`item`] hands out one item of one batch, [`list_item`] prints it;
 //! * [`Writer`] writes one record at a time, [`rewrite`] a whole file again.
 
 #![forbid(unsafe_code)]
@@ -29,7 +29,7 @@ pub use answer::{number, Answer};
 pub use check::check;
 pub use fields::{date_exists, eleven_check};
 pub use items::{item, Item, DESCRIPTION_ROOM};
-pub use listing::list;
+pub use listing::{list, list_answer, list_item};
 pub use records::{
     Batch, BatchHeader, BatchTrailer, FileHeader, Group, OrderingParty, Record, TestCode,
     Transaction, TransactionType, Variant,

@@ -1,9 +1,10 @@
-//! The listing: key=value lines.
+//! The listings: key=value lines of a file, and of one item.
 
 use std::io::{self, Write};
 
 use crate::answer::Answer;
 use crate::check::each;
+use crate::items::{item, DESCRIPTION_ROOM};
 use crate::records::{FileHeader, Record};
 
 /// Prints the header's keys when its line is accepted, a batch's when its
@@ -27,10 +28,32 @@ pub fn list(file: &[u8], out: &mut impl Write) -> io::Result<Answer> {
         }
         _ => Ok(()),
     })?;
-    writeln!(out, "answer={}", answer.number)?;
-    writeln!(out, "line={}", answer.line)?;
-    writeln!(out, "column={}", answer.column)?;
-    Ok(answer)
+    list_answer(&answer, out)
+}
+
+/// Prints the fields of an item if there is one, and the answer always; gives
+/// that answer back.
+pub fn list_item(file: &[u8], batch: u64, number: u64, out: &mut impl Write) -> io::Result<Answer> {
+    let mut room = [b' '; DESCRIPTION_ROOM];
+    let found = item(file, batch, number, &mut room);
+    if let Some(kind) = found.kind {
+        text(out, "type", kind.code())?;
+        writeln!(out, "amount={}", found.amount)?;
+        writeln!(out, "payer={:010}", found.payer)?;
+        writeln!(out, "beneficiary={:010}", found.beneficiary)?;
+        text(out, "reference", &found.reference)?;
+        text(out, "name", &found.name)?;
+        for (place, description) in room.chunks_exact(32).enumerate() {
+            text(out, &format!("description{}", place + 1), description)?;
+        }
+    }
+    list_answer(&found.answer, out)
+}
+
+/// The three lines of an answer; gives it back.
+pub fn list_answer(answer: &Answer, out: &mut impl Write) -> io::Result<Answer> {
+    writeln!(out, "answer={}\nline={}\ncolumn={}", answer.number, answer.line, answer.column)?;
+    Ok(*answer)
 }
 
 fn text(out: &mut impl Write, key: &str, value: &[u8]) -> io::Result<()> {

@@ -2,15 +2,20 @@
 
 mod common;
 
+use std::ffi::OsStr;
+use std::fs::File;
 use std::io::Write;
+use std::os::unix::ffi::OsStrExt;
 use std::path::PathBuf;
 use std::process::{Command, Output, Stdio};
 
-use common::{file, EXAMPLE};
+use common::{file, EXAMPLE, LISTING};
 
 const ACCEPTED: &str = "answer=0\nline=9\ncolumn=0\n";
 /// Of the example cut after its seventh line.
 const LACKING: &str = "answer=10\nline=8\ncolumn=0\n";
+const LACKING_IN_WORDS: &str = "line 8: the file ends before its file trailer (answer 10)\n";
+const NO_SUCH_ITEM: &str = "answer=13\nline=9\ncolumn=0\n";
 
 /// A file with this content, and its name.
 fn stored(name: &str, content: &[u8]) -> String {
@@ -31,12 +36,16 @@ fn peer(arguments: &[&str], input: &[u8]) -> Output {
     child.wait_with_output().unwrap()
 }
 
-/// Standard output and standard error, status 0.
-fn said(arguments: &[&str], input: &[u8]) -> (String, String) {
+/// Status, standard output and standard error.
+fn said(arguments: &[&str], input: &[u8]) -> (i32, String, String) {
     let output = peer(arguments, input);
-    assert!(output.status.success());
     let text = |bytes| String::from_utf8(bytes).unwrap();
-    (text(output.stdout), text(output.stderr))
+    (output.status.code().unwrap(), text(output.stdout), text(output.stderr))
+}
+
+/// This on standard output, and nothing on standard error.
+fn out(status: i32, text: impl Into<String>) -> (i32, String, String) {
+    (status, text.into(), String::new())
 }
 
 fn second_item() -> String {
@@ -59,41 +68,35 @@ fn standard_input_and_one_file_have_no_title() {
     let whole = file(&EXAMPLE);
     let name = stored("one.cli", &whole);
     for (question, expected) in [
-        (&["check"][..], ACCEPTED.to_string()),
+        (&["list"][..], LISTING.to_string()),
         (&["item", "1", "2"], second_item()),
         (&["item", "0001", "002"], second_item()),
         (&["rewrite"], String::from_utf8(whole.clone()).unwrap()),
     ] {
-        assert_eq!(said(question, &whole), (expected.clone(), String::new()));
-        let of_file = [question, &[&name]].concat();
-        assert_eq!(said(&of_file, b""), (expected, String::new()));
+        assert_eq!(said(question, &whole), out(0, &expected));
+        assert_eq!(said(&[question, &[&name]].concat(), b""), out(0, &expected));
     }
-    let (listing, _) = said(&["list"], &whole);
-    assert_eq!(said(&["list", &name], b"").0, listing);
-    assert!(listing.starts_with("file=CLIEOP03\n") && listing.ends_with(ACCEPTED));
+    assert_eq!(said(&["check"], &whole), out(0, "standard input: accepted, 9 lines\n"));
+    assert_eq!(said(&["check", &name], b""), out(0, format!("{name}: accepted, 9 lines\n")));
 }
 
 #[test]
 fn several_files_each_under_its_name() {
     let whole = stored("several-1.cli", &file(&EXAMPLE));
     let cut = stored("several-2.cli", &file(&EXAMPLE[..7]));
-    let listing = said(&["list", &whole], b"").0;
-    let header = listing.split_inclusive("duplicate=1\n").next().unwrap();
+    let header = LISTING.split_inclusive("duplicate=1\n").next().unwrap();
     assert_eq!(
         said(&["list", &whole, &cut], b""),
-        (format!("input={whole}\n{listing}input={cut}\n{header}{LACKING}"), String::new())
+        out(1, format!("input={whole}\n{LISTING}input={cut}\n{header}{LACKING}"))
     );
     let item = second_item();
     assert_eq!(
         said(&["item", "1", "2", &cut, &whole, &cut], b""),
-        (
-            format!("input={cut}\n{LACKING}input={whole}\n{item}input={cut}\n{LACKING}"),
-            String::new()
-        )
+        out(1, format!("input={cut}\n{LACKING}input={whole}\n{item}input={cut}\n{LACKING}"))
     );
     assert_eq!(
         said(&["check", &whole, &cut], b""),
-        (format!("input={whole}\n{ACCEPTED}input={cut}\n{LACKING}"), String::new())
+        out(1, format!("{whole}: accepted, 9 lines\n{cut}: {LACKING_IN_WORDS}"))
     );
 }
 
@@ -101,24 +104,24 @@ fn several_files_each_under_its_name() {
 fn rewriting_names_refused_files_only() {
     let whole = stored("rewrite-1.cli", &file(&EXAMPLE));
     let cut = stored("rewrite-2.cli", &file(&EXAMPLE[..7]));
-    let text = |lines: &[&str]| String::from_utf8(file(lines)).unwrap();
+    let text = String::from_utf8(file(&EXAMPLE)).unwrap();
     assert_eq!(
         said(&["rewrite", &whole, &cut, &whole], b""),
-        (text(&EXAMPLE).repeat(2), format!("input={cut}\n{LACKING}"))
+        (1, text.repeat(2), format!("input={cut}\n{LACKING}"))
     );
-    let alone = (String::new(), LACKING.to_string());
+    assert_eq!(said(&["rewrite", &whole, &whole], b""), out(0, text.repeat(2)));
+    let alone = (1, String::new(), LACKING.to_string());
     assert_eq!(said(&["rewrite", &cut], b""), alone);
     assert_eq!(said(&["rewrite"], &file(&EXAMPLE[..7])), alone);
     // City records are left out; the answer counts them.
     let lines = [&EXAMPLE[..7], &["0173BUTRECHT"], &EXAMPLE[7..]].concat();
-    assert_eq!(said(&["rewrite"], &file(&lines)), (text(&EXAMPLE), String::new()));
-    let again = (String::new(), "answer=10\nline=10\ncolumn=0\n".to_string());
-    assert_eq!(said(&["rewrite"], &file(&lines[..9])), again);
+    assert_eq!(said(&["rewrite"], &file(&lines)), out(0, text));
+    let lacking = (1, String::new(), "answer=10\nline=10\ncolumn=0\n".to_string());
+    assert_eq!(said(&["rewrite"], &file(&lines[..9])), lacking);
 }
 
 #[test]
 fn batch_and_item_of_any_size() {
-    let none = "answer=13\nline=9\ncolumn=0\n";
     for (batch, item) in [
         ("0", "1"),
         ("1", "0"),
@@ -128,8 +131,8 @@ fn batch_and_item_of_any_size() {
         ("1", "18446744073709551618"),
         ("99999999999999999999999999999999999999999", "0"),
     ] {
-        let (out, _) = said(&["item", batch, item], &file(&EXAMPLE));
-        assert_eq!(out, none, "{batch} {item}");
+        let none = out(1, NO_SUCH_ITEM);
+        assert_eq!(said(&["item", batch, item], &file(&EXAMPLE)), none, "{batch} {item}");
     }
 }
 
@@ -138,10 +141,60 @@ fn wrong_use_is_status_2() {
     for arguments in
         [&[][..], &["show"], &["item"], &["item", "1"], &["item", "+1", "1"], &["item", "", "1"]]
     {
-        let output = peer(arguments, b"");
-        assert_eq!(output.status.code(), Some(2), "{arguments:?}");
-        assert!(output.stdout.is_empty());
-        assert!(output.stderr.starts_with(b"usage: "));
+        let (status, out, errors) = said(arguments, b"");
+        assert_eq!((status, out.as_str()), (2, ""), "{arguments:?}");
+        assert!(errors.starts_with("usage: ") && errors.ends_with('\n'));
     }
-    assert_eq!(peer(&["list", "no such file"], b"").status.code(), Some(2));
+}
+
+#[test]
+fn what_cannot_be_read_is_told_and_the_rest_answered() {
+    let whole = stored("read-1.cli", &file(&EXAMPLE));
+    let cut = stored("read-2.cli", &file(&EXAMPLE[..7]));
+    let missing = "no such file";
+    let directory = env!("CARGO_TARGET_TMPDIR");
+    let names = [missing, &cut, directory, &whole];
+    for (question, expected) in [
+        (&["check"][..], format!("{cut}: {LACKING_IN_WORDS}{whole}: accepted, 9 lines\n")),
+        (&["item", "2", "1"], format!("input={cut}\n{LACKING}input={whole}\n{NO_SUCH_ITEM}")),
+        (&["rewrite"], String::from_utf8(file(&EXAMPLE)).unwrap()),
+    ] {
+        let (status, out, errors) = said(&[question, &names].concat(), b"");
+        assert_eq!((status, out), (2, expected));
+        let told: Vec<&str> = errors.lines().filter(|line| line.contains(": ")).collect();
+        assert!(told[0].starts_with("no such file: No such file or directory"), "{errors}");
+        assert!(told[1].starts_with(&format!("{directory}: ")), "{errors}");
+        assert_eq!(told.len(), 2);
+    }
+    for question in [&["list"][..], &["item", "1", "1"], &["rewrite"], &["check"]] {
+        let (status, out, errors) = said(&[question, &[missing]].concat(), b"");
+        assert_eq!((status, out.as_str(), errors.lines().count()), (2, "", 1));
+    }
+}
+
+#[test]
+fn what_cannot_be_written_is_told() {
+    let refused = file(&EXAMPLE[..7]);
+    let name = stored("full.cli", &refused);
+    let full = || File::options().write(true).open("/dev/full").unwrap();
+    for question in [&["list"][..], &["item", "1", "1"], &["check"]] {
+        let mut command = Command::new(env!("CARGO_BIN_EXE_peer"));
+        let output = command.args(question).arg(&name).stdout(full()).output().unwrap();
+        assert_eq!(output.status.code(), Some(2), "{question:?}");
+        assert!(output.stderr.starts_with(b"standard output: No space left"));
+    }
+    let mut command = Command::new(env!("CARGO_BIN_EXE_peer"));
+    let status = command.args(["rewrite", &name]).stderr(full()).status().unwrap();
+    assert_eq!(status.code(), Some(2));
+}
+
+#[test]
+fn a_name_stands_as_it_is() {
+    let name = OsStr::from_bytes(b"name \xff\t.cli");
+    let path = PathBuf::from(env!("CARGO_TARGET_TMPDIR")).join(name);
+    std::fs::write(&path, file(&EXAMPLE)).unwrap();
+    let mut command = Command::new(env!("CARGO_BIN_EXE_peer"));
+    let output = command.arg("check").arg(&path).output().unwrap();
+    assert_eq!(output.status.code(), Some(0));
+    assert_eq!(output.stdout, [path.as_os_str().as_bytes(), b": accepted, 9 lines\n"].concat());
 }

@@ -3,12 +3,19 @@
 
 #![forbid(unsafe_code)]
 
+use std::ffi::{OsStr, OsString};
 use std::io::{self, BufWriter, Read, Write};
+use std::os::unix::ffi::OsStrExt;
 use std::process::ExitCode;
 
-use peer::{check, item, list, rewrite, Answer, DESCRIPTION_ROOM};
+use peer::{list, list_answer, list_item, report, rewrite, Answer};
 
 const USAGE: &str = "usage: peer list|item B K|rewrite|check [FILE..]";
+
+/// The statuses the command ends with: the highest of what happened.
+const DONE: u8 = 0;
+const REFUSED: u8 = 1;
+const FAILED: u8 = 2;
 
 /// What is asked of each file.
 #[derive(Clone, Copy)]
@@ -20,121 +27,110 @@ enum Question {
 }
 
 fn main() -> ExitCode {
-    let arguments: Vec<String> = std::env::args().skip(1).collect();
-    match run(&arguments) {
-        Ok(()) => ExitCode::SUCCESS,
-        Err(error) if error.kind() == io::ErrorKind::BrokenPipe => ExitCode::SUCCESS,
-        Err(error) => {
-            eprintln!("{error}");
-            ExitCode::from(2)
-        }
-    }
-}
-
-fn run(arguments: &[String]) -> io::Result<()> {
-    let arguments: Vec<&str> = arguments.iter().map(String::as_str).collect();
-    let (question, names) = match arguments[..] {
-        ["list", ref names @ ..] => (Question::List, names),
-        ["item", batch, number, ref names @ ..] => {
-            (Question::Item(count(batch)?, count(number)?), names)
-        }
-        ["rewrite", ref names @ ..] => (Question::Rewrite, names),
-        ["check", ref names @ ..] => (Question::Check, names),
-        _ => return Err(wrong_usage()),
-    };
-    let mut out = BufWriter::new(io::stdout().lock());
+    let arguments: Vec<OsString> = std::env::args_os().skip(1).collect();
+    let arguments: Vec<&[u8]> = arguments.iter().map(|argument| argument.as_bytes()).collect();
     let mut errors = BufWriter::new(io::stderr().lock());
-    if names.is_empty() {
-        answer(question, "", &standard_input()?, &mut out, &mut errors)?;
+    let said = match question(&arguments) {
+        Some((question, names)) => {
+            let out = BufWriter::new(io::stdout().lock());
+            let several = names.len() > 1;
+            Run { question, several, out, errors: &mut errors }.inputs(names)
+        }
+        None => writeln!(errors, "{USAGE}").map(|()| FAILED),
+    };
+    let status = said.unwrap_or_else(|error| {
+        // Where standard error fails itself, there is nobody left to tell.
+        let _ = writeln!(errors, "standard output: {error}");
+        FAILED
+    });
+    ExitCode::from(errors.flush().map_or(FAILED, |()| status))
+}
+
+/// What the arguments ask, and the names of the files.
+fn question<'a, 'b>(arguments: &'a [&'b [u8]]) -> Option<(Question, &'a [&'b [u8]])> {
+    match arguments {
+        [b"list", names @ ..] => Some((Question::List, names)),
+        [b"item", batch, number, names @ ..] => {
+            Some((Question::Item(count(batch)?, count(number)?), names))
+        }
+        [b"rewrite", names @ ..] => Some((Question::Rewrite, names)),
+        [b"check", names @ ..] => Some((Question::Check, names)),
+        _ => None,
     }
-    for name in names {
-        let title = if names.len() > 1 { format!("input={name}\n") } else { String::new() };
-        answer(question, &title, &contents(name)?, &mut out, &mut errors)?;
-    }
-    out.flush()?;
-    errors.flush()
-}
-
-fn standard_input() -> io::Result<Vec<u8>> {
-    let mut bytes = Vec::new();
-    io::stdin().lock().read_to_end(&mut bytes)?;
-    Ok(bytes)
-}
-
-fn contents(name: &str) -> io::Result<Vec<u8>> {
-    std::fs::read(name).map_err(|error| io::Error::new(error.kind(), format!("{name}: {error}")))
-}
-
-fn wrong_usage() -> io::Error {
-    io::Error::new(io::ErrorKind::InvalidInput, USAGE)
 }
 
 /// A number of any length; one above 2^64-1 is as good as that, for no file
 /// has so many batches or items.
-fn count(argument: &str) -> io::Result<u64> {
-    if argument.is_empty() || !argument.bytes().all(|byte| byte.is_ascii_digit()) {
-        return Err(wrong_usage());
+fn count(argument: &[u8]) -> Option<u64> {
+    if argument.is_empty() || !argument.iter().all(u8::is_ascii_digit) {
+        return None;
     }
-    Ok(argument.parse().unwrap_or(u64::MAX))
+    let digits = argument.iter().map(|byte| u64::from(byte - b'0'));
+    Some(digits.fold(0, |value: u64, digit| value.saturating_mul(10).saturating_add(digit)))
 }
 
-/// Answers the question about one file, under its title. Rewriting prints
-/// the answer, and so the title, only of a refused file, to `errors`.
-fn answer(
+/// A question, and where its answers go.
+struct Run<O, E> {
     question: Question,
-    title: &str,
-    file: &[u8],
-    out: &mut impl Write,
-    errors: &mut impl Write,
-) -> io::Result<()> {
-    match question {
-        Question::List => {
-            write!(out, "{title}")?;
-            list(file, out).map(|_| ())
+    /// Are there two files or more?
+    several: bool,
+    out: O,
+    errors: E,
+}
+
+impl<O: Write, E: Write> Run<O, E> {
+    /// Asks about each input in turn; gives the status.
+    fn inputs(&mut self, names: &[&[u8]]) -> io::Result<u8> {
+        let mut status = DONE;
+        if names.is_empty() {
+            let mut file = Vec::new();
+            let read = io::stdin().lock().read_to_end(&mut file).map(|_| file);
+            status = self.input(b"standard input", read)?;
         }
-        Question::Item(batch, number) => {
-            write!(out, "{title}")?;
-            print_item(file, batch, number, out)
+        for name in names {
+            let read = std::fs::read(OsStr::from_bytes(name));
+            status = status.max(self.input(name, read)?);
         }
-        Question::Rewrite => {
-            let written = rewrite(file);
-            out.write_all(&written.bytes)?;
-            if written.answer.is_accepted() {
-                return Ok(());
+        self.out.flush()?;
+        Ok(status)
+    }
+
+    /// Asks about one input. One that can't be read is told of and no more.
+    fn input(&mut self, name: &[u8], read: io::Result<Vec<u8>>) -> io::Result<u8> {
+        match read {
+            Ok(file) if self.answer(name, &file)?.is_accepted() => Ok(DONE),
+            Ok(_) => Ok(REFUSED),
+            Err(error) => {
+                self.errors.write_all(name)?;
+                writeln!(self.errors, ": {error}")?;
+                Ok(FAILED)
             }
-            write!(errors, "{title}")?;
-            print_answer(&written.answer, errors)
-        }
-        Question::Check => {
-            write!(out, "{title}")?;
-            print_answer(&check(file), out)
         }
     }
-}
 
-fn print_item(file: &[u8], batch: u64, number: u64, out: &mut impl Write) -> io::Result<()> {
-    let mut room = [b' '; DESCRIPTION_ROOM];
-    let found = item(file, batch, number, &mut room);
-    if let Some(kind) = found.kind {
-        text(out, "type", kind.code())?;
-        writeln!(out, "amount={}", found.amount)?;
-        writeln!(out, "payer={:010}", found.payer)?;
-        writeln!(out, "beneficiary={:010}", found.beneficiary)?;
-        text(out, "reference", &found.reference)?;
-        text(out, "name", &found.name)?;
-        for (place, description) in room.chunks_exact(32).enumerate() {
-            text(out, &format!("description{}", place + 1), description)?;
+    /// Prints the answer, under a title if there are several files. Rewriting
+    /// has one only of a refused file.
+    fn answer(&mut self, name: &[u8], file: &[u8]) -> io::Result<Answer> {
+        let title = if self.several { [b"input=", name, b"\n"].concat() } else { vec![] };
+        match self.question {
+            Question::List => {
+                self.out.write_all(&title)?;
+                list(file, &mut self.out)
+            }
+            Question::Item(batch, number) => {
+                self.out.write_all(&title)?;
+                list_item(file, batch, number, &mut self.out)
+            }
+            Question::Rewrite => {
+                let written = rewrite(file);
+                self.out.write_all(&written.bytes)?;
+                if written.answer.is_accepted() {
+                    return Ok(written.answer);
+                }
+                self.errors.write_all(&title)?;
+                list_answer(&written.answer, &mut self.errors)
+            }
+            Question::Check => report(name, file, &mut self.out),
         }
     }
-    print_answer(&found.answer, out)
-}
-
-fn print_answer(answer: &Answer, out: &mut impl Write) -> io::Result<()> {
-    writeln!(out, "answer={}\nline={}\ncolumn={}", answer.number, answer.line, answer.column)
-}
-
-fn text(out: &mut impl Write, key: &str, value: &[u8]) -> io::Result<()> {
-    write!(out, "{key}=")?;
-    out.write_all(value)?;
-    out.write_all(b"\n")
 }
