@@ -192,6 +192,11 @@ impl Met {
     pub const fn new(answer: u8, record: &'static str, column: usize, after: &'static str) -> Self {
         Self { answer, record, column, after }
     }
+
+    /// The name of the field refused; none of an answer without a column.
+    pub fn field(&self) -> Option<&'static str> {
+        field_name(self.record.as_bytes(), self.column)
+    }
 }
 
 impl fmt::Display for Met {
@@ -305,5 +310,6 @@ mod tests {
         // 14 places and 14 records, less those that always fit.
         assert_eq!(of(3), 14 * 14 - 27);
         assert_eq!([4, 5, 6, 7, 9].map(of), [45, 21, 4, 9, 3]);
+        assert!(all.iter().all(|met| met.field().is_some() == (met.column > 0)));
     }
 }

@@ -1,0 +1,106 @@
+//! What `check` printed, read back.
+
+/// Ways in which a line can be broken.
+pub const WAYS: [&str; 4] =
+    ["the file ends in it", "shorter than 50", "longer than 50", "byte 10 alone"];
+
+/// What was printed of one file.
+pub struct Report {
+    pub answer: u8,
+    pub line: usize,
+    pub column: usize,
+    /// The name of the field, if there is a column.
+    pub field: Option<String>,
+    /// Which of [`WAYS`], of a broken line.
+    pub way: Option<&'static str>,
+}
+
+impl Report {
+    /// Takes what was printed of the file with this name off the front of
+    /// these lines; none if it isn't as it should be.
+    pub fn take<'a>(name: &str, lines: &mut impl Iterator<Item = &'a str>) -> Option<Self> {
+        let said = lines.next()?.strip_prefix(name)?.strip_prefix(": ")?;
+        if let Some(count) = said.strip_prefix("accepted, ") {
+            let line = count.strip_suffix(" lines")?.parse().ok()?;
+            return Some(Self { answer: 0, line, column: 0, field: None, way: None });
+        }
+        let report = Self::refusal(said)?;
+        if report.answer != 10 {
+            lines.next()?.strip_prefix("  ")?;
+        }
+        if report.column > 0 && lines.next()? != format!("  {:>1$}", '^', report.column) {
+            return None;
+        }
+        Some(report)
+    }
+
+    /// `line L, column C, FIELD: WORDS (answer A)`, or without column and field.
+    fn refusal(said: &str) -> Option<Self> {
+        let (place, words) = said.split_once(": ")?;
+        let (words, answer) = words.strip_suffix(')')?.rsplit_once(" (answer ")?;
+        let mut place = place.splitn(3, ", ");
+        let line = place.next()?.strip_prefix("line ")?.parse().ok()?;
+        let column = match place.next() {
+            None => 0,
+            Some(column) => column.strip_prefix("column ")?.parse().ok()?,
+        };
+        let field = place.next().map(String::from);
+        let answer = answer.parse().ok()?;
+        Some(Self { answer, line, column, field, way: way(words) })
+    }
+}
+
+fn way(words: &str) -> Option<&'static str> {
+    let how = words.strip_prefix("the line is broken: ")?;
+    if how.starts_with("the file ends after byte ") {
+        return Some(WAYS[0]);
+    }
+    if how.starts_with("it ends with byte 10 alone") {
+        return Some(WAYS[3]);
+    }
+    let length: usize =
+        how.strip_prefix("its length is ")?.strip_suffix(", not 50")?.parse().ok()?;
+    Some(if length < 50 { WAYS[1] } else { WAYS[2] })
+}
+
+#[cfg(test)]
+mod tests {
+    use super::*;
+
+    #[test]
+    fn what_the_second_program_prints() {
+        let mut header = b"0001A150309CLIEOP03NACHT14011".to_vec();
+        header.resize(50, b' ');
+        header.extend(b"\r\n");
+        let of = |file: &[u8], expected| {
+            let mut out = Vec::new();
+            peer::report(b"it", file, &mut out).unwrap();
+            let printed = String::from_utf8(out).unwrap();
+            let mut lines = printed.lines();
+            let Report { answer, line, column, field, way } =
+                Report::take("it", &mut lines).unwrap();
+            assert_eq!((answer, line, column, field.as_deref(), way), expected, "{printed}");
+            assert_eq!(lines.next(), None);
+        };
+        of(b"", (10, 1, 0, None, None));
+        of(&header, (7, 1, 25, Some("identification"), None));
+        of(&header[1..], (1, 1, 0, None, Some(WAYS[1])));
+        of(&header[..20], (1, 1, 0, None, Some(WAYS[0])));
+        of(&[&header[..50], b"\n"].concat(), (1, 1, 0, None, Some(WAYS[3])));
+        of(&[b"0", &header[..]].concat(), (1, 1, 0, None, Some(WAYS[2])));
+    }
+
+    #[test]
+    fn what_it_does_not_print() {
+        for printed in [
+            "",
+            "other: accepted, 9 lines",
+            "it: accepted",
+            "it: line 1: words",
+            "it: line 1: words (answer 11)",
+            "it: line 1, column 25, name: words (answer 4)\n  x\n  ^",
+        ] {
+            assert!(Report::take("it", &mut printed.lines()).is_none(), "{printed}");
+        }
+    }
+}
