@@ -2,12 +2,14 @@
 use mathlib.Core.Path.{refl}
 use Rattle.machine.specs.Lists.{pick, same}
 use Rattle.machine.specs.Digits.{digitsOnto, decimal, valueAfter}
-use Rattle.format.specs.Rules.{daysIn, isDate, weighted, isEleven, isOrderingAccount, isAccount, isOwnPayer, isOwnBeneficiary, typeOf}
+use Rattle.format.specs.Rules.{daysIn, isDate, isDesiredDate, isTestCode, isIdentification, isOfDay, weighted, isEleven, isOrderingAccount, isAccount, isOwnPayer, isOwnBeneficiary, isNameCodeIn, typeOf}
 use Rattle.format.specs.Cutting.{rowsFrom}
 use Rattle.field.specs.Rows.{fieldAnswer, firstOr}
+use Rattle.record.specs.Kinds.{codeOf, debitCode, batchCode, fileCode}
 use Rattle.record.specs.Faults.{firstFault, faultOf}
 use Rattle.reading.specs.State.{isKept, within}
-use Rattle.reading.specs.Step.{endedAt}
+use Rattle.reading.specs.Order.{mayOpen, mayFix, mayEnd, mayPay, mayName, allowed}
+use Rattle.reading.specs.Step.{judgedAs, judgedKind, judgedLine, isWhole, judgedFirst, endedAt, stepAt}
 use Rattle.reading.specs.Check.{linesBy, linesOf, checkOf}
 use Rattle.theorem.specs.Cases.{Right, cases}
 
@@ -16,7 +18,7 @@ abbrev _&_ : {A B : Type 0} → A → B → A × B
 a & b = (a, b)
 
 pub worked : Right cases
-unfolding pick same digitsOnto decimal valueAfter daysIn isDate weighted isEleven isOrderingAccount isAccount isOwnPayer isOwnBeneficiary typeOf fieldAnswer firstOr firstFault faultOf isKept within endedAt rowsFrom linesBy linesOf checkOf
+unfolding pick same digitsOnto decimal valueAfter daysIn isDate isDesiredDate isTestCode isIdentification isOfDay weighted isEleven isOrderingAccount isAccount isOwnPayer isOwnBeneficiary isNameCodeIn typeOf fieldAnswer firstOr codeOf debitCode batchCode fileCode firstFault faultOf isKept within mayOpen mayFix mayEnd mayPay mayName allowed judgedAs judgedKind judgedLine isWhole judgedFirst endedAt stepAt rowsFrom linesBy linesOf checkOf
 worked =
     -- 1, 2
     (refl & refl) & (refl & refl) & (refl & refl) & (refl & refl)
@@ -27,7 +29,7 @@ worked =
     -- 5
     & refl & refl
     -- 6
-    & (refl & refl) & (refl & refl)
+    & (refl, refl, refl, refl, refl) & (refl, refl, refl, refl, refl)
     -- 7
     & refl & refl & refl & refl
     -- 8, 9
@@ -35,4 +37,6 @@ worked =
     -- 10
     & refl
     -- 11
-    & refl & refl & tt
+    & refl & refl
+    -- the example
+    & refl & tt

@@ -1,15 +1,17 @@
--- 01's cases that are proved (1 to 11), of the definitions that the contracts name, in one table.
+-- 01's cases that are proved (1 to 11) and its example, of the definitions that the contracts name, in one table.
 use mathlib.Core.Path.{_≡_}
 use mathlib.Core.Bool.{Bool, true, false}
-use mathlib.Core.List.{List, [], _∷_}
+use mathlib.Core.List.{List, [], _∷_, _++_}
 use mathlib.Core.Option.{none}
-use Prim.Native.Nat.{ℕ, _*_}
+use Prim.Native.Nat.{ℕ, _+_, _*_}
+use Prim.Native.Char.{code}
+use Prim.Native.String.{String, [] as nothing, _∷_ as _then_}
 use lib.ListN.{take, drop}
 use Rattle.machine.specs.Lists.{spaces}
 use Rattle.descriptions.specs.Texts.{mergeOf}
 use Rattle.format.specs.Rules.{maxAmount, mostDescriptions, weighted, isEleven, isDate, typeText}
-use Rattle.format.specs.Language.{Rec, tenDigits, batchHeaderRec, batchTrailerRec, lineOf}
-use Rattle.format.specs.Answers.{wrongValue, wrongAccount, differs, aboveMaximum, endsEarly}
+use Rattle.format.specs.Language.{Rec, batchHeaderRec, batchTrailerRec, crlf, endBytes, lineOf}
+use Rattle.format.specs.Answers.{accepted, wrongValue, wrongAccount, differs, aboveMaximum, endsEarly}
 use Rattle.format.specs.declared.Kind.the-variants.{Transaction}
 use Rattle.format.specs.declared.Group.{Group}
 use Rattle.format.specs.declared.Group.the-variants.{Payments, Debits}
@@ -17,7 +19,12 @@ use Rattle.format.specs.declared.TransactionType.the-variants.{Salary, Debit}
 use Rattle.record.specs.Faults.{faultAt, noFault, faultOf}
 use Rattle.record.specs.declared.Batch.{Batch}
 use Rattle.record.specs.declared.Fault.{Fault}
+use Rattle.reading.specs.State.{noItem}
+use Rattle.reading.specs.Step.{stepAt}
 use Rattle.reading.specs.Check.{checkOf}
+use Rattle.reading.specs.declared.Stage.the-variants.{Ordered}
+use Rattle.reading.specs.declared.State.{State}
+use Rattle.reading.specs.declared.LineRead.{LineRead}
 use Rattle.reading.specs.declared.Answer.{Answer}
 use Rattle.theorem.specs.Meaning.{answer}
 
@@ -28,8 +35,8 @@ pub data Case : Type 0 where
   date : ℕ → Bool → Case
   -- a record in a group after a batch so far, and its first fault
   line : Group → Batch → Rec → Fault → Case
-  -- a batch's account sum, and how its trailer has it, which is accepted
-  accountSum : ℕ → List ℕ → Case
+  -- the payer and the beneficiary of a batch's one item, their sum, what the batch has of it, and its ten digits in the trailer that is accepted
+  accountSum : ℕ → ℕ → ℕ → ℕ → String → Case
   -- whether an item has a reference, the fixed and its own descriptions, and those handed out
   merging : Bool → List (List ℕ) → List (List ℕ) → List (List ℕ) → Case
   -- the bytes of a file, and their answer
@@ -49,29 +56,80 @@ debit payer = (Transaction, (typeText Debit, (1, (payer, (123456789, (tt, tt))))
 abbrev header : ℕ → Rec
 header sequence = batchHeaderRec Payments 123456789 sequence none
 
--- of one item of one cent
+-- an item of one cent, and the trailer after it
+abbrev cent : ℕ → ℕ → Rec
+cent payer beneficiary = (Transaction, (typeText Salary, (1, (payer, (beneficiary, (tt, tt))))))
+
 abbrev trailer : ℕ → Rec
-trailer accounts = batchTrailerRec 1 (tenDigits accounts) 1
+trailer accounts = batchTrailerRec 1 accounts 1
 
 -- a description of 32 characters
 abbrev text : ℕ → List ℕ
 text c = c ∷ spaces 31
 
--- the 50 characters of a record
+-- the 50 characters of a record, and its line
 abbrev lineText : Rec → List ℕ
 lineText r = lineOf [] r
+
+abbrev lineBytes : Rec → List ℕ
+lineBytes r = lineOf (endBytes crlf) r
+
+-- after the ordering party of a batch of an account, and after one item of it
+abbrev ordered : ℕ → State
+ordered account =
+    record {
+      line = 3;
+      stage = Ordered;
+      group = Payments;
+      said = true;
+      batch = record { account = account; sequence = 1; items = 0; total = 0; accounts = 0; fixed = 0 };
+      item = noItem;
+    }
+
+abbrev paidOne : ℕ → ℕ → LineRead
+paidOne payer beneficiary = stepAt (ordered payer) (lineBytes (cent payer beneficiary))
+
+-- the characters of a text; as a line, filled to 50 with spaces; and lines
+abbrev characters : String → List ℕ
+characters nothing = []
+characters (c then cs) = code c ∷ characters cs
+
+abbrev pub textLine : String → List ℕ
+textLine t = take 50 (characters t ++ spaces 50) ++ endBytes crlf
+
+abbrev pub textLines : List String → List ℕ
+textLines [] = []
+textLines (t ∷ ts) = textLine t ++ textLines ts
 
 abbrev Holds : Case → Type 0
 Holds (eleven account weight passes) = (weighted 10 1 account ≡ weight) × (isEleven account ≡ passes)
 Holds (date day exists) = isDate day ≡ exists
 Holds (line g b r fault) = faultOf true g b (r .0) (lineText r) ≡ fault
-Holds (accountSum accounts text) = (take 10 (drop 23 (lineText (trailer accounts))) ≡ text) × (faultOf true Payments (batch 1 1 1 (tenDigits accounts)) (trailer accounts .0) (lineText (trailer accounts)) ≡ noFault)
+Holds (accountSum payer beneficiary sum accounts digits) =
+    (payer + beneficiary ≡ sum)
+    × (paidOne payer beneficiary .answer ≡ accepted)
+    × (paidOne payer beneficiary .next .batch .accounts ≡ accounts)
+    × (take 10 (drop 23 (lineText (trailer accounts))) ≡ characters digits)
+    × (stepAt (paidOne payer beneficiary .next) (lineBytes (trailer accounts)) .answer ≡ accepted)
 Holds (merging reference fixed own handed) = mergeOf (mostDescriptions reference) fixed own ≡ handed
 Holds (file bytes told) = checkOf bytes ≡ told
 
 abbrev pub Right : List Case → Type 0
 Right [] = Unit {0}
 Right (c ∷ cs) = Holds c × Right cs
+
+abbrev pub example : List String
+example =
+    "0001A150309CLIEOP03NACHT15011"
+    ∷ "0010B0001234567890001EUR"
+    ∷ "0020ASALARIS MAART"
+    ∷ "0030B1000000                                   P"
+    ∷ "0100A000800000015000001234567890111111110"
+    ∷ "0100A000300000000255001234567890000001234"
+    ∷ "0170BJ DE VRIES"
+    ∷ "9990A00000000000015255003580259220000002"
+    ∷ "9999A"
+    ∷ []
 
 abbrev pub cases : List Case
 cases =
@@ -92,8 +150,8 @@ cases =
     ∷ line Payments (batch 1 100 (100 * maxAmount) 0) (payment 101) noFault
     ∷ line Payments (batch 1 100 (100 * maxAmount) 0) (payment 102) (faultAt 10 aboveMaximum)
     -- 6
-    ∷ accountSum 10000000003 (48 ∷ 48 ∷ 48 ∷ 48 ∷ 48 ∷ 48 ∷ 48 ∷ 48 ∷ 48 ∷ 51 ∷ [])
-    ∷ accountSum 10000000000 (48 ∷ 48 ∷ 48 ∷ 48 ∷ 48 ∷ 48 ∷ 48 ∷ 48 ∷ 48 ∷ 48 ∷ [])
+    ∷ accountSum 9999999999 4 10000000003 3 "0000000003"
+    ∷ accountSum 9999999980 20 10000000000 0 "0000000000"
     -- 7
     ∷ date 290208 true
     ∷ date 290200 true
@@ -108,4 +166,6 @@ cases =
     -- 11
     ∷ line Payments (batch 9999 0 0 0) (header 1) (faultAt 18 differs)
     ∷ line Payments (batch 9999 0 0 0) (header 0) (faultAt 18 wrongValue)
+    -- the example
+    ∷ file (textLines example) (answer accepted 9 0)
     ∷ []
