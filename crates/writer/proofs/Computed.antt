@@ -49,4 +49,6 @@ cases =
       beyond-limits = refl;
       header-bytes = refl;
       trailer-bytes = refl;
+      sum-with-carry = record { sum-of = refl; item-written = refl; digits-written = refl; trailer-written = refl };
+      sum-of-ten-zeros = record { sum-of = refl; item-written = refl; digits-written = refl; trailer-written = refl };
     }

@@ -1,13 +1,13 @@
--- Cases of the writer: what cannot be carried is refused at its column, and the order of the answers.
-use Prim.Native.Nat.{ℕ, _-_}
+-- Cases of the writer: what cannot be carried is refused at its column, the order of the answers, and 01's case 6 of what is written.
+use Prim.Native.Nat.{ℕ, _+_, _-_}
 use mathlib.Core.Path.{_≡_}
 use mathlib.Core.List.{List, [], _∷_, _++_}
 use mathlib.Core.Bool.{true, false}
-use lib.ListN.{replicate}
+use lib.ListN.{take, drop, replicate}
 use Rattle.machine.specs.Lists.{spaces}
 use Rattle.format.specs.declared.Group.the-variants.{Payments}
 use Rattle.format.specs.declared.TransactionType.the-variants.{Salary}
-use Rattle.reading.specs.State.{startState}
+use Rattle.reading.specs.State.{noItem, startState}
 use Rattle.reading.specs.declared.Stage.{Stage}
 use Rattle.reading.specs.declared.Stage.the-variants as stage
 use Rattle.reading.specs.declared.Name.{Name}
@@ -46,6 +46,28 @@ told w = w .answer ∷ w .line ∷ w .column ∷ []
 abbrev pub Told : State → Entry → List ℕ → ℕ → ℕ → ℕ → ℕ → Type 0
 Told s e t room answer line column = told (writtenOf s e t room) ≡ answer ∷ line ∷ column ∷ []
 
+-- after the ordering party of a batch of an account, and after an item of one cent of it
+abbrev pub orderedOf : ℕ → State
+orderedOf account =
+    record {
+      line = 3;
+      stage = stage.Ordered;
+      group = Payments;
+      said = true;
+      batch = record { account = account; sequence = 1; items = 0; total = 0; accounts = 0; fixed = 0 };
+      item = noItem;
+    }
+
+abbrev pub afterCent : ℕ → ℕ → Written
+afterCent payer beneficiary = writtenOf (orderedOf payer) (Item (record { kind = Salary; amount = 1; payer = payer; beneficiary = beneficiary })) (letters 0) 52
+
+-- the two accounts of a batch's one item, their sum, and the ten digits of it with which the trailer is written, and accepted
+pub record SumWritten (payer beneficiary sum : ℕ) (digits : List ℕ) : Type 0 where
+  pub sum-of : payer + beneficiary ≡ sum
+  pub item-written : told (afterCent payer beneficiary) ≡ 0 ∷ 4 ∷ 0 ∷ []
+  pub digits-written : take 10 (drop 23 (lineFor (afterCent payer beneficiary .next) BatchTrailer (letters 0))) ≡ digits
+  pub trailer-written : Told (afterCent payer beneficiary .next) BatchTrailer (letters 0) 52 0 5 0
+
 pub record Cases : Type 0 where
   pub header : Told startState (FileHeader 150309 1501 1) (letters 5) 52 0 1 0
   pub no-room : Told startState (FileHeader 150309 1501 1) (letters 5) 51 12 1 0
@@ -80,3 +102,6 @@ pub record Cases : Type 0 where
   -- the bytes of a line: 0001A150309CLIEOP03AAAAA15011, and the trailer's numbers from the state
   pub header-bytes : lineFor startState (FileHeader 150309 1501 1) (letters 5) ≡ 48 ∷ 48 ∷ 48 ∷ 49 ∷ 65 ∷ 49 ∷ 53 ∷ 48 ∷ 51 ∷ 48 ∷ 57 ∷ 67 ∷ 76 ∷ 73 ∷ 69 ∷ 79 ∷ 80 ∷ 48 ∷ 51 ∷ 65 ∷ 65 ∷ 65 ∷ 65 ∷ 65 ∷ 49 ∷ 53 ∷ 48 ∷ 49 ∷ 49 ∷ (spaces 21 ++ lineEnd)
   pub trailer-bytes : lineFor (batchAt 4 stage.Item Unwanted) BatchTrailer (letters 0) ≡ 57 ∷ 57 ∷ 57 ∷ 48 ∷ 65 ∷ 48 ∷ 48 ∷ 48 ∷ 48 ∷ 48 ∷ 48 ∷ 48 ∷ 48 ∷ 48 ∷ 48 ∷ 48 ∷ 48 ∷ 48 ∷ 49 ∷ 53 ∷ 48 ∷ 48 ∷ 48 ∷ 48 ∷ 49 ∷ 50 ∷ 51 ∷ 52 ∷ 53 ∷ 56 ∷ 48 ∷ 50 ∷ 51 ∷ 48 ∷ 48 ∷ 48 ∷ 48 ∷ 48 ∷ 48 ∷ 49 ∷ (spaces 10 ++ lineEnd)
+  -- 01's case 6: 10,000,000,003 is written 0000000003, 10,000,000,000 is written 0000000000
+  pub sum-with-carry : SumWritten 9999999999 4 10000000003 (replicate 9 48 ++ (51 ∷ []))
+  pub sum-of-ten-zeros : SumWritten 9999999980 20 10000000000 (replicate 10 48)
