@@ -4,6 +4,7 @@ pub mod Lines
 pub mod Reach
 pub mod Reached
 pub mod Run
+pub mod Counted
 pub mod Meaning
 pub mod Longest
 pub mod Cases

@@ -14,6 +14,7 @@ use Rattle.reading.specs.State.{maxLine}
 use Rattle.reading.specs.Check.{checkOf}
 use Rattle.reading.specs.declared.Answer.{Answer}
 use Rattle.theorem.specs.Meaning.{answer, Means}
+use Rattle.theorem.proofs.Counted.{each-counted}
 use Rattle.theorem.proofs.Run.{Says, yes, no, same-answer}
 
 -- what the language's reader says is told by an answer that says the same
@@ -23,6 +24,7 @@ told b (yes n h) e =
       accepted-exactly = (λ z. the.language b .0 (n, e), λ f. refl);
       accepted-lines = λ z. (the.lines-read b n e, refl);
       one-reading = the.one-reading b;
+      each-counted = λ f r. each-counted f;
       refusal = λ z. absurd (z refl);
       numbers = omega arith;
     }
@@ -31,6 +33,7 @@ told b (no number n column h) e =
       accepted-exactly = (λ z. absurd (omega arith), λ f. absurd (let w = the.language b .1 f in accepted≢refused (w .0) (sym (w .1) ∙ e)));
       accepted-lines = λ z. absurd (omega arith);
       one-reading = the.one-reading b;
+      each-counted = λ f r. each-counted f;
       refusal = λ z. the.refusals b number n column e;
       numbers = omega arith;
     }

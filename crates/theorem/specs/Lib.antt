@@ -1,3 +1,4 @@
+pub mod Counted
 pub mod Meaning
 pub mod Reached
 pub mod Cases
