@@ -11,32 +11,36 @@ use Rattle.reading.specs.State.{isKept, within}
 use Rattle.reading.specs.Order.{mayOpen, mayFix, mayEnd, mayPay, mayName, allowed}
 use Rattle.reading.specs.Step.{judgedAs, judgedKind, judgedLine, isWhole, judgedFirst, endedAt, stepAt}
 use Rattle.reading.specs.Check.{linesBy, linesOf, checkOf}
-use Rattle.theorem.specs.Cases.{Right, cases}
+use Rattle.theorem.specs.Cases.{Each, Right, accountCases, amountCases, sumCases, dateCases, descriptionCases, sequenceCases, fileCases, cases}
 
-infixr 5 _&_
-abbrev _&_ : {A B : Type 0} → A → B → A × B
-a & b = (a, b)
+-- a record's first fault
+accounts : Each accountCases
+unfolding pick same digitsOnto decimal valueAfter weighted isEleven isOrderingAccount isAccount isOwnPayer isOwnBeneficiary typeOf fieldAnswer firstOr firstFault faultOf
+accounts = ((refl, refl), ((refl, refl), ((refl, refl), ((refl, refl), (refl, ((refl, refl), (refl, (refl, tt))))))))
+
+amounts : Each amountCases
+unfolding pick same digitsOnto decimal valueAfter weighted isEleven isOrderingAccount isAccount isOwnPayer isOwnBeneficiary typeOf fieldAnswer firstOr firstFault faultOf
+amounts = (refl, (refl, (refl, (refl, tt))))
+
+sequences : Each sequenceCases
+unfolding pick same digitsOnto decimal valueAfter weighted isEleven isOrderingAccount fieldAnswer firstOr firstFault faultOf
+sequences = (refl, (refl, tt))
+
+dates : Each dateCases
+unfolding pick daysIn isDate
+dates = (refl, (refl, (refl, (refl, tt))))
+
+descriptions : Each descriptionCases
+descriptions = (refl, (refl, (refl, tt)))
+
+-- lines one after the other
+sums : Each sumCases
+unfolding pick same digitsOnto decimal valueAfter weighted isEleven isOrderingAccount isAccount isOwnPayer isOwnBeneficiary typeOf fieldAnswer firstOr codeOf debitCode batchCode fileCode firstFault faultOf isKept within mayEnd mayPay allowed judgedAs judgedKind judgedLine isWhole judgedFirst stepAt
+sums = ((refl, refl, refl, refl, refl), ((refl, refl, refl, refl, refl), tt))
+
+files : Each fileCases
+unfolding pick same digitsOnto decimal valueAfter daysIn isDate isDesiredDate isTestCode isIdentification isOfDay weighted isEleven isOrderingAccount isAccount isOwnPayer isOwnBeneficiary isNameCodeIn typeOf fieldAnswer firstOr codeOf debitCode batchCode fileCode firstFault faultOf isKept within mayOpen mayFix mayEnd mayPay mayName allowed judgedAs judgedKind judgedLine isWhole judgedFirst endedAt rowsFrom linesBy linesOf checkOf
+files = (refl, (refl, tt))
 
 pub worked : Right cases
-unfolding pick same digitsOnto decimal valueAfter daysIn isDate isDesiredDate isTestCode isIdentification isOfDay weighted isEleven isOrderingAccount isAccount isOwnPayer isOwnBeneficiary isNameCodeIn typeOf fieldAnswer firstOr codeOf debitCode batchCode fileCode firstFault faultOf isKept within mayOpen mayFix mayEnd mayPay mayName allowed judgedAs judgedKind judgedLine isWhole judgedFirst endedAt stepAt rowsFrom linesBy linesOf checkOf
-worked =
-    -- 1, 2
-    (refl & refl) & (refl & refl) & (refl & refl) & (refl & refl)
-    -- 3
-    & refl & (refl & refl) & refl & refl
-    -- 4
-    & refl & refl
-    -- 5
-    & refl & refl
-    -- 6
-    & (refl, refl, refl, refl, refl) & (refl, refl, refl, refl, refl)
-    -- 7
-    & refl & refl & refl & refl
-    -- 8, 9
-    & refl & refl & refl
-    -- 10
-    & refl
-    -- 11
-    & refl & refl
-    -- the example
-    & refl & tt
+worked = (accounts, (amounts, (sums, (dates, (descriptions, (sequences, (files, tt)))))))

@@ -114,9 +114,13 @@ Holds (accountSum payer beneficiary sum accounts digits) =
 Holds (merging reference fixed own handed) = mergeOf (mostDescriptions reference) fixed own ≡ handed
 Holds (file bytes told) = checkOf bytes ≡ told
 
-abbrev pub Right : List Case → Type 0
+abbrev pub Each : List Case → Type 0
+Each [] = Unit {0}
+Each (c ∷ cs) = Holds c × Each cs
+
+abbrev pub Right : List (List Case) → Type 0
 Right [] = Unit {0}
-Right (c ∷ cs) = Holds c × Right cs
+Right (cs ∷ others) = Each cs × Right others
 
 abbrev pub example : List String
 example =
@@ -131,41 +135,65 @@ example =
     ∷ "9999A"
     ∷ []
 
-abbrev pub cases : List Case
-cases =
-    -- 1, 2
+-- 1, 2, 3
+abbrev pub accountCases : List Case
+accountCases =
     eleven 123456789 165 true
     ∷ eleven 123456788 164 false
     ∷ eleven 1000000001 11 true
     ∷ eleven 1000000000 10 false
-    -- 3
     ∷ line Debits (batch 1 0 0 0) (debit 9999999) noFault
     ∷ eleven 10000003 11 true
     ∷ line Debits (batch 1 0 0 0) (debit 10000003) (faultAt 22 wrongAccount)
     ∷ line Debits (batch 1 0 0 0) (debit 0) (faultAt 22 wrongValue)
-    -- 4
-    ∷ line Payments (batch 1 0 0 0) (payment 45378021608) noFault
+    ∷ []
+
+-- 4, 5
+abbrev pub amountCases : List Case
+amountCases =
+    line Payments (batch 1 0 0 0) (payment 45378021608) noFault
     ∷ line Payments (batch 1 0 0 0) (payment 45378021609) (faultAt 10 wrongValue)
-    -- 5
     ∷ line Payments (batch 1 100 (100 * maxAmount) 0) (payment 101) noFault
     ∷ line Payments (batch 1 100 (100 * maxAmount) 0) (payment 102) (faultAt 10 aboveMaximum)
-    -- 6
-    ∷ accountSum 9999999999 4 10000000003 3 "0000000003"
+    ∷ []
+
+-- 6
+abbrev pub sumCases : List Case
+sumCases =
+    accountSum 9999999999 4 10000000003 3 "0000000003"
     ∷ accountSum 9999999980 20 10000000000 0 "0000000000"
-    -- 7
-    ∷ date 290208 true
+    ∷ []
+
+-- 7
+abbrev pub dateCases : List Case
+dateCases =
+    date 290208 true
     ∷ date 290200 true
     ∷ date 290209 false
     ∷ date 310409 false
-    -- 8, 9: the fixed A, B, C, D and the own P, Q, R
-    ∷ merging false (text 65 ∷ text 66 ∷ []) (text 80 ∷ text 81 ∷ text 82 ∷ []) (text 65 ∷ text 66 ∷ text 80 ∷ text 81 ∷ [])
+    ∷ []
+
+-- 8, 9: the fixed A, B, C, D and the own P, Q, R
+abbrev pub descriptionCases : List Case
+descriptionCases =
+    merging false (text 65 ∷ text 66 ∷ []) (text 80 ∷ text 81 ∷ text 82 ∷ []) (text 65 ∷ text 66 ∷ text 80 ∷ text 81 ∷ [])
     ∷ merging true (text 65 ∷ text 66 ∷ []) (text 80 ∷ text 81 ∷ text 82 ∷ []) (text 65 ∷ text 66 ∷ text 80 ∷ [])
     ∷ merging true (text 65 ∷ text 66 ∷ text 67 ∷ text 68 ∷ []) (text 80 ∷ []) (text 65 ∷ text 66 ∷ text 67 ∷ [])
-    -- 10
-    ∷ file [] (answer endsEarly 1 0)
-    -- 11
-    ∷ line Payments (batch 9999 0 0 0) (header 1) (faultAt 18 differs)
+    ∷ []
+
+-- 11
+abbrev pub sequenceCases : List Case
+sequenceCases =
+    line Payments (batch 9999 0 0 0) (header 1) (faultAt 18 differs)
     ∷ line Payments (batch 9999 0 0 0) (header 0) (faultAt 18 wrongValue)
-    -- the example
+    ∷ []
+
+-- 10, and the example
+abbrev pub fileCases : List Case
+fileCases =
+    file [] (answer endsEarly 1 0)
     ∷ file (textLines example) (answer accepted 9 0)
     ∷ []
+
+abbrev pub cases : List (List Case)
+cases = accountCases ∷ amountCases ∷ sumCases ∷ dateCases ∷ descriptionCases ∷ sequenceCases ∷ fileCases ∷ []
