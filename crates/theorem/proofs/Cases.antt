@@ -11,6 +11,7 @@ use Rattle.reading.specs.State.{isKept, within}
 use Rattle.reading.specs.Order.{mayOpen, mayFix, mayEnd, mayPay, mayName, allowed}
 use Rattle.reading.specs.Step.{judgedAs, judgedKind, judgedLine, isWhole, judgedFirst, endedAt, stepAt}
 use Rattle.reading.specs.Check.{linesBy, linesOf, checkOf}
+use Rattle.theorem.proofs.Example.{example-reads}
 use Rattle.theorem.specs.Cases.{Each, Right, accountCases, amountCases, sumCases, dateCases, descriptionCases, sequenceCases, fileCases, cases}
 
 -- a record's first fault
@@ -40,7 +41,7 @@ sums = ((refl, refl, refl, refl, refl), ((refl, refl, refl, refl, refl), tt))
 
 files : Each fileCases
 unfolding pick same digitsOnto decimal valueAfter daysIn isDate isDesiredDate isTestCode isIdentification isOfDay weighted isEleven isOrderingAccount isAccount isOwnPayer isOwnBeneficiary isNameCodeIn typeOf fieldAnswer firstOr codeOf debitCode batchCode fileCode firstFault faultOf isKept within mayOpen mayFix mayEnd mayPay mayName allowed judgedAs judgedKind judgedLine isWhole judgedFirst endedAt rowsFrom linesBy linesOf checkOf
-files = (refl, (refl, tt))
+files = (refl, (refl, (example-reads, tt)))
 
 pub worked : Right cases
 worked = (accounts, (amounts, (sums, (dates, (descriptions, (sequences, (files, tt)))))))

@@ -7,4 +7,5 @@ pub mod Run
 pub mod Counted
 pub mod Meaning
 pub mod Longest
+pub mod Example
 pub mod Cases

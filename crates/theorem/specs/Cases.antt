@@ -1,16 +1,15 @@
 -- 01's cases that are proved (1 to 11) and its example, of the definitions that the contracts name, in one table.
 use mathlib.Core.Path.{_≡_}
 use mathlib.Core.Bool.{Bool, true, false}
-use mathlib.Core.List.{List, [], _∷_, _++_}
+use mathlib.Core.List.{List, [], _∷_}
 use mathlib.Core.Option.{none}
 use Prim.Native.Nat.{ℕ, _+_, _*_}
-use Prim.Native.Char.{code}
-use Prim.Native.String.{String, [] as nothing, _∷_ as _then_}
+use Prim.Native.String.{String}
 use lib.ListN.{take, drop}
 use Rattle.machine.specs.Lists.{spaces}
 use Rattle.descriptions.specs.Texts.{mergeOf}
 use Rattle.format.specs.Rules.{maxAmount, mostDescriptions, weighted, isEleven, isDate, typeText}
-use Rattle.format.specs.Language.{Rec, batchHeaderRec, batchTrailerRec, crlf, endBytes, lineOf}
+use Rattle.format.specs.Language.{File, Rec, batchHeaderRec, batchTrailerRec, crlf, endBytes, lineOf, Reads}
 use Rattle.format.specs.Answers.{accepted, wrongValue, wrongAccount, differs, aboveMaximum, endsEarly}
 use Rattle.format.specs.declared.Kind.the-variants.{Transaction}
 use Rattle.format.specs.declared.Group.{Group}
@@ -27,6 +26,7 @@ use Rattle.reading.specs.declared.State.{State}
 use Rattle.reading.specs.declared.LineRead.{LineRead}
 use Rattle.reading.specs.declared.Answer.{Answer}
 use Rattle.theorem.specs.Meaning.{answer}
+use Rattle.theorem.specs.Example.{characters, example, exampleFile}
 
 pub data Case : Type 0 where
   -- an account, its weighted sum, and whether it passes the eleven check
@@ -41,6 +41,8 @@ pub data Case : Type 0 where
   merging : Bool → List (List ℕ) → List (List ℕ) → List (List ℕ) → Case
   -- the bytes of a file, and their answer
   file : List ℕ → Answer → Case
+  -- and the file that they are, which is then the only one
+  reading : List ℕ → File → Case
 
 -- a batch of the account 123456789: its number, its items so far, their total and account sum
 abbrev batch : ℕ → ℕ → ℕ → ℕ → Batch
@@ -89,18 +91,6 @@ ordered account =
 abbrev paidOne : ℕ → ℕ → LineRead
 paidOne payer beneficiary = stepAt (ordered payer) (lineBytes (cent payer beneficiary))
 
--- the characters of a text; as a line, filled to 50 with spaces; and lines
-abbrev characters : String → List ℕ
-characters nothing = []
-characters (c then cs) = code c ∷ characters cs
-
-abbrev pub textLine : String → List ℕ
-textLine t = take 50 (characters t ++ spaces 50) ++ endBytes crlf
-
-abbrev pub textLines : List String → List ℕ
-textLines [] = []
-textLines (t ∷ ts) = textLine t ++ textLines ts
-
 abbrev Holds : Case → Type 0
 Holds (eleven account weight passes) = (weighted 10 1 account ≡ weight) × (isEleven account ≡ passes)
 Holds (date day exists) = isDate day ≡ exists
@@ -113,6 +103,7 @@ Holds (accountSum payer beneficiary sum accounts digits) =
     × (stepAt (paidOne payer beneficiary .next) (lineBytes (trailer accounts)) .answer ≡ accepted)
 Holds (merging reference fixed own handed) = mergeOf (mostDescriptions reference) fixed own ≡ handed
 Holds (file bytes told) = checkOf bytes ≡ told
+Holds (reading bytes f) = Reads bytes f
 
 abbrev pub Each : List Case → Type 0
 Each [] = Unit {0}
@@ -121,19 +112,6 @@ Each (c ∷ cs) = Holds c × Each cs
 abbrev pub Right : List (List Case) → Type 0
 Right [] = Unit {0}
 Right (cs ∷ others) = Each cs × Right others
-
-abbrev pub example : List String
-example =
-    "0001A150309CLIEOP03NACHT15011"
-    ∷ "0010B0001234567890001EUR"
-    ∷ "0020ASALARIS MAART"
-    ∷ "0030B1000000                                   P"
-    ∷ "0100A000800000015000001234567890111111110"
-    ∷ "0100A000300000000255001234567890000001234"
-    ∷ "0170BJ DE VRIES"
-    ∷ "9990A00000000000015255003580259220000002"
-    ∷ "9999A"
-    ∷ []
 
 -- 1, 2, 3
 abbrev pub accountCases : List Case
@@ -192,7 +170,8 @@ sequenceCases =
 abbrev pub fileCases : List Case
 fileCases =
     file [] (answer endsEarly 1 0)
-    ∷ file (textLines example) (answer accepted 9 0)
+    ∷ file example (answer accepted 9 0)
+    ∷ reading example exampleFile
     ∷ []
 
 abbrev pub cases : List (List Case)

@@ -1,0 +1,69 @@
+-- 01's example: its nine lines, and the file that they are.
+use mathlib.Core.List.{List, [], _∷_, _++_}
+use mathlib.Core.Option.{none, some}
+use Prim.Native.Nat.{ℕ}
+use Prim.Native.Char.{code}
+use Prim.Native.String.{String, [] as nothing, _∷_ as _then_}
+use lib.ListN.{take}
+use Rattle.machine.specs.Lists.{spaces}
+use Rattle.format.specs.Language.{Item, Batch, File, crlf, endBytes}
+use Rattle.format.specs.declared.Group.the-variants.{Payments}
+
+-- the characters of a text, and so many, filled with spaces
+abbrev pub characters : String → List ℕ
+characters nothing = []
+characters (c then cs) = code c ∷ characters cs
+
+abbrev pub filledTo : ℕ → String → List ℕ
+filledTo w t = take w (characters t ++ spaces w)
+
+-- lines of 50 characters with their ends
+abbrev pub textLines : List String → List ℕ
+textLines [] = []
+textLines (t ∷ ts) = filledTo 50 t ++ (endBytes crlf ++ textLines ts)
+
+abbrev pub example : List ℕ
+example =
+    textLines
+    ("0001A150309CLIEOP03NACHT15011"
+    ∷ "0010B0001234567890001EUR"
+    ∷ "0020ASALARIS MAART"
+    ∷ "0030B1000000                                   P"
+    ∷ "0100A000800000015000001234567890111111110"
+    ∷ "0100A000300000000255001234567890000001234"
+    ∷ "0170BJ DE VRIES"
+    ∷ "9990A00000000000015255003580259220000002"
+    ∷ "9999A"
+    ∷ [])
+
+abbrev pub salary : Item
+salary = record { type = characters "0008"; amount = 150000; payer = 123456789; beneficiary = 111111110; reference = none; descriptions = []; name = none }
+
+abbrev pub uncheckedSalary : Item
+uncheckedSalary =
+    record {
+      type = characters "0003";
+      amount = 2550;
+      payer = 123456789;
+      beneficiary = 1234;
+      reference = none;
+      descriptions = [];
+      name = some (record { text = filledTo 35 "J DE VRIES"; city = none });
+    }
+
+abbrev pub exampleBatch : Batch
+exampleBatch =
+    record {
+      account = 123456789;
+      sequence = 1;
+      identification = none;
+      fixed = filledTo 32 "SALARIS MAART" ∷ [];
+      nameCode = 1;
+      desired = 0;
+      party = spaces 35;
+      testCode = characters "P";
+      items = salary ∷ uncheckedSalary ∷ [];
+    }
+
+abbrev pub exampleFile : File
+exampleFile = record { created = 150309; sender = characters "NACHT"; identification = characters "1501"; duplicate = 1; group = Payments; batches = exampleBatch ∷ [] }
