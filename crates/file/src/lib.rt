@@ -4,8 +4,8 @@ ghost use Rattle.reading.specs.Check.{checkOf};
 ghost use Rattle.theorem.specs.Meaning.{Means};
 use reading::Answer;
 
-// The answer of a file, with its line and column; and what that answer means: accepted exactly when the bytes are a file of the
-// language, which then has one reading, and for a refusal that the lines before the named one can be completed and with it cannot.
+// The answer of a file, with its line and column; and what that answer means: accepted exactly when the bytes are a file of the language, which
+// then has one reading, where each item is counted in one trailer; and for a refusal that the lines before the named one can be completed and with it cannot.
 pub fn check(file: &[u8]) -> Answer
     ensures answer { λ r. ⌜ r ≡ checkOf (now (file .entry)) ⌝ }
     ensures meaning { λ r. ⌜ Means (now (file .entry)) r ⌝ }
