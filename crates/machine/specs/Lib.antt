@@ -1,3 +1,4 @@
 pub mod Lists
 pub mod Digits
 pub mod Lines
+pub mod Texts

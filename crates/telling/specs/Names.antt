@@ -9,7 +9,7 @@ use Rattle.format.specs.Fields.{Field, width}
 use Rattle.format.specs.Records.{layout}
 use Rattle.format.specs.declared.Kind.{Kind}
 use Rattle.format.specs.declared.Kind.the-variants.{FileHeader, BatchHeaderB, BatchHeaderC, FixedDescription, OrderingParty, Transaction, NamePayer, CityPayer, PaymentReference, Description, NameBeneficiary, CityBeneficiary, BatchTrailer, FileTrailer}
-use Rattle.telling.specs.Texts.{bytesOf}
+use Rattle.machine.specs.Texts.{characters}
 
 abbrev pub batchHeaderNames : List String
 batchHeaderNames = "group" ∷ "ordering account" ∷ "sequence" ∷ "currency" ∷ "batch identification" ∷ "filler" ∷ []
@@ -35,15 +35,15 @@ names FileTrailer = "filler" ∷ []
 abbrev pub nameFrom : ℕ → List Field → List String → ℕ → List ℕ
 nameFrom c [] ns column = []
 nameFrom c (f ∷ fs) [] column = []
-nameFrom c (f ∷ fs) (n ∷ ns) column = pick (eqb column c) (bytesOf n) (nameFrom (c + width f) fs ns column)
+nameFrom c (f ∷ fs) (n ∷ ns) column = pick (eqb column c) (characters n) (nameFrom (c + width f) fs ns column)
 
 abbrev pub nameIn : Kind → ℕ → List ℕ
 nameIn k column = nameFrom 6 (layout k) (names k) column
 
 -- THE NAME of the field that a refusal's column names
 unfoldable pub fieldName : Kind → ℕ → List ℕ
-fieldName k column = pick (eqb column 1) (bytesOf "code and variant") (nameIn k column)
+fieldName k column = pick (eqb column 1) (characters "code and variant") (nameIn k column)
 
 -- THE NAME of an input, which is empty for standard input
 unfoldable pub inputName : List ℕ → List ℕ
-inputName name = pick (eqb (length name) 0) (bytesOf "standard input") name
+inputName name = pick (eqb (length name) 0) (characters "standard input") name

@@ -5,7 +5,7 @@ use mathlib.Core.List.{List, [], _∷_}
 use lib.Dec.{eqb}
 use Rattle.machine.specs.Lists.{pick}
 use Rattle.format.specs.Answers.{accepted, brokenLine, unknownRecord, misplacedRecord, wrongForm, wrongValue, wrongAccount, differs, aboveMaximum, wrongTrailer, endsEarly, afterTrailer, noRoom, noSuchItem, beyondLimits}
-use Rattle.telling.specs.Texts.{bytesOf}
+use Rattle.machine.specs.Texts.{characters}
 
 abbrev pub ofFields : List (ℕ × String)
 ofFields =
@@ -37,7 +37,7 @@ ofLines =
 -- the words of an answer by a table, or others where it is not in it
 abbrev pub wordsBy : List (ℕ × String) → List ℕ → ℕ → List ℕ
 wordsBy [] others answer = others
-wordsBy (row ∷ rows) others answer = pick (eqb answer (row .0)) (bytesOf (row .1)) (wordsBy rows others answer)
+wordsBy (row ∷ rows) others answer = pick (eqb answer (row .0)) (characters (row .1)) (wordsBy rows others answer)
 
 -- THE WORDS of an answer
 unfoldable pub wordsOf : ℕ → List ℕ

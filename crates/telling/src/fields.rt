@@ -5,7 +5,7 @@ ghost use lib.Dec.{eqb};
 ghost use Rattle.machine.specs.Lists.{pick};
 ghost use Rattle.format.specs.declared.Kind.the-variants.{FileHeader, BatchHeaderB, OrderingParty, Transaction, BatchTrailer};
 ghost use Rattle.page.specs.Lines.{withText};
-ghost use Rattle.telling.specs.Texts.{bytesOf};
+ghost use Rattle.machine.specs.Texts.{characters};
 ghost use Rattle.telling.specs.Names.{nameIn, fieldName};
 use format::Kind;
 use page::put_text;
@@ -29,7 +29,7 @@ fn put_with_filler(
     name: &[u8],
     filler: u8,
 ) -> usize
-    ensures { λ r. ⌜ (now (page .exit), r) ≡ withText (now (page .entry), at) (pick (eqb column first) (now (name .entry)) (pick (eqb column filler) (bytesOf "filler") [])) ⌝ }
+    ensures { λ r. ⌜ (now (page .exit), r) ≡ withText (now (page .entry), at) (pick (eqb column first) (now (name .entry)) (pick (eqb column filler) (characters "filler") [])) ⌝ }
 {
     if column == first {
         return put_text(page, at, name);

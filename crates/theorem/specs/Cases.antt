@@ -7,6 +7,7 @@ use Prim.Native.Nat.{ℕ, _+_, _*_}
 use Prim.Native.String.{String}
 use lib.ListN.{take, drop}
 use Rattle.machine.specs.Lists.{spaces}
+use Rattle.machine.specs.Texts.{characters}
 use Rattle.descriptions.specs.Texts.{mergeOf}
 use Rattle.format.specs.Rules.{maxAmount, mostDescriptions, weighted, isEleven, isDate, typeText}
 use Rattle.format.specs.Language.{File, Rec, batchHeaderRec, batchTrailerRec, crlf, endBytes, lineOf, Reads}
@@ -26,7 +27,7 @@ use Rattle.reading.specs.declared.State.{State}
 use Rattle.reading.specs.declared.LineRead.{LineRead}
 use Rattle.reading.specs.declared.Answer.{Answer}
 use Rattle.theorem.specs.Meaning.{answer}
-use Rattle.theorem.specs.Example.{characters, example, exampleFile}
+use Rattle.theorem.specs.Example.{example, exampleFile}
 
 pub data Case : Type 0 where
   -- an account, its weighted sum, and whether it passes the eleven check

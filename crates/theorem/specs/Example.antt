@@ -2,18 +2,14 @@
 use mathlib.Core.List.{List, [], _∷_, _++_}
 use mathlib.Core.Option.{none, some}
 use Prim.Native.Nat.{ℕ}
-use Prim.Native.Char.{code}
-use Prim.Native.String.{String, [] as nothing, _∷_ as _then_}
+use Prim.Native.String.{String}
 use lib.ListN.{take}
 use Rattle.machine.specs.Lists.{spaces}
+use Rattle.machine.specs.Texts.{characters}
 use Rattle.format.specs.Language.{Item, Batch, File, crlf, endBytes}
 use Rattle.format.specs.declared.Group.the-variants.{Payments}
 
--- the characters of a text, and so many, filled with spaces
-abbrev pub characters : String → List ℕ
-characters nothing = []
-characters (c then cs) = code c ∷ characters cs
-
+-- so many characters of a text, filled with spaces
 abbrev pub filledTo : ℕ → String → List ℕ
 filledTo w t = take w (characters t ++ spaces w)
 
