@@ -53,4 +53,4 @@ or-not b d h p = rw h p
 
 pub ruleset ands = (and-yes, and-no, or-yes, or-not, lt-ltb, le-ltb, le-leb, lt-leb, eq-eqb, ne-eqb)
 
-pub ruleset picks = (pick-yes, pick-no, tests, needs)
+pub ruleset picks = (pick-yes, pick-no, tests)

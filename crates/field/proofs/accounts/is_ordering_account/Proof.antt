@@ -8,6 +8,6 @@ is-ordering-account-spec =
     tie.close
     (tie.spec
     (λ c κs. search needs)  -- weighed-requires
-    (λ c. search elevens depth 20 fits 10000)  -- returns
-    (λ c. search elevens depth 20 fits 10000)  -- returns-2
+    (λ c. search elevens depth 3 fits 10000)  -- returns
+    (λ c. search elevens depth 3 fits 10000)  -- returns-2
     )

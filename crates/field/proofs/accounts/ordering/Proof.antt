@@ -9,10 +9,10 @@ ordering-spec =
     tie.close
     (tie.spec
     (λ c κs. search needs)  -- account-number-requires
-    (λ c. search mores depth 20 fits 10000)  -- returns
+    (λ c. search mores depth 3 fits 10000)  -- returns
     (λ c κs. search needs)  -- part-requires
     (λ c κs. search ten-digits)  -- is-ordering-account-requires
     (λ c κs. search needs)  -- wrong-requires
-    (λ c. search mores depth 20 fits 10000)  -- returns-2
-    (λ c. search mores depth 20 fits 10000)  -- returns-3
+    (λ c. search mores depth 3 fits 10000)  -- returns-2
+    (λ c. search mores depth 3 fits 10000)  -- returns-3
     )

@@ -17,15 +17,15 @@ weighed-spec =
     (tie.spec
     Inv-loop
     μ-loop
-    (λ c. search weighings depth 20 fits 10000)  -- loop-holds
+    (λ c. search weighings depth 3 fits 10000)  -- loop-holds
     (λ c. search needs)  -- shared-slice-read-wide
-    (λ c. search weighings depth 20 fits 10000)  -- sub-wide
+    (λ c. search weighings depth 3 fits 10000)  -- sub-wide
     (λ c κs. search needs)  -- wide-requires
-    (λ c. search weighings depth 20 fits 10000)  -- mul-sum
-    (λ c. search weighings depth 20 fits 10000)  -- add-sum
-    (λ c. search weighings depth 20 fits 10000)  -- sub-w
+    (λ c. search weighings depth 3 fits 10000)  -- mul-sum
+    (λ c. search weighings depth 3 fits 10000)  -- add-sum
+    (λ c. search weighings depth 3 fits 10000)  -- sub-w
     (λ c. search needs)  -- add-i
     (λ c. search needs)  -- loop-less
-    (λ c. search weighings depth 20 fits 10000)  -- loop-again
-    (λ c. search weighings depth 20 fits 10000)  -- returns
+    (λ c. search weighings depth 3 fits 10000)  -- loop-again
+    (λ c. search weighings depth 3 fits 10000)  -- returns
     )

@@ -17,10 +17,10 @@ is-blank-spec =
     (tie.spec
     Inv-loop
     μ-loop
-    (λ c. search passes depth 20 fits 10000)  -- loop-holds
-    (λ c. search passes depth 20 fits 10000)  -- shared-slice-read-ok
-    (λ c. search passes depth 20 fits 10000)  -- add-i
-    (λ c. search passes depth 20 fits 10000)  -- loop-less
-    (λ c. search passes depth 20 fits 10000)  -- loop-again
-    (λ c. search passes depth 20 fits 10000)  -- returns
+    (λ c. search passes depth 3 fits 10000)  -- loop-holds
+    (λ c. search passes depth 3 fits 10000)  -- shared-slice-read-ok
+    (λ c. search passes depth 3 fits 10000)  -- add-i
+    (λ c. search passes depth 3 fits 10000)  -- loop-less
+    (λ c. search passes depth 3 fits 10000)  -- loop-again
+    (λ c. search passes depth 3 fits 10000)  -- returns
     )

@@ -17,11 +17,11 @@ is-digits-spec =
     (tie.spec
     Inv-loop
     μ-loop
-    (λ c. search passes depth 20 fits 10000)  -- loop-holds
-    (λ c. search passes depth 20 fits 10000)  -- shared-slice-read-is-digit
-    (λ c κs. search passes depth 20 fits 10000)  -- is-digit-requires
-    (λ c. search passes depth 20 fits 10000)  -- add-i
-    (λ c. search passes depth 20 fits 10000)  -- loop-less
-    (λ c. search passes depth 20 fits 10000)  -- loop-again
-    (λ c. search passes depth 20 fits 10000)  -- returns
+    (λ c. search passes depth 3 fits 10000)  -- loop-holds
+    (λ c. search passes depth 3 fits 10000)  -- shared-slice-read-is-digit
+    (λ c κs. search passes depth 3 fits 10000)  -- is-digit-requires
+    (λ c. search passes depth 3 fits 10000)  -- add-i
+    (λ c. search passes depth 3 fits 10000)  -- loop-less
+    (λ c. search passes depth 3 fits 10000)  -- loop-again
+    (λ c. search passes depth 3 fits 10000)  -- returns
     )

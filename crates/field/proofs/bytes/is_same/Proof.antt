@@ -16,12 +16,12 @@ is-same-spec =
     (tie.spec
     Inv-loop
     μ-loop
-    (λ c. search alikes depth 20 fits 10000)  -- returns
-    (λ c. search alikes depth 20 fits 10000)  -- loop-holds
-    (λ c. search alikes depth 20 fits 10000)  -- shared-slice-read-ok
-    (λ c. search alikes depth 20 fits 10000)  -- shared-slice-read-ok-2
-    (λ c. search alikes depth 20 fits 10000)  -- add-i
-    (λ c. search alikes depth 20 fits 10000)  -- loop-less
-    (λ c. search alikes depth 20 fits 10000)  -- loop-again
-    (λ c. search alikes depth 20 fits 10000)  -- returns-2
+    (λ c. search alikes depth 3 fits 10000)  -- returns
+    (λ c. search alikes depth 3 fits 10000)  -- loop-holds
+    (λ c. search alikes depth 3 fits 10000)  -- shared-slice-read-ok
+    (λ c. search alikes depth 3 fits 10000)  -- shared-slice-read-ok-2
+    (λ c. search alikes depth 3 fits 10000)  -- add-i
+    (λ c. search alikes depth 3 fits 10000)  -- loop-less
+    (λ c. search alikes depth 3 fits 10000)  -- loop-again
+    (λ c. search alikes depth 3 fits 10000)  -- returns-2
     )

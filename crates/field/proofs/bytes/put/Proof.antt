@@ -10,7 +10,7 @@ put-spec =
     (λ c. search needs)  -- sub-if2
     (λ c κs. search needs)  -- copy-requires
     (λ c. search needs)  -- same-length
-    (λ c. search fittings depth 20 fits 10000)  -- returns
-    (λ c. search fittings depth 20 fits 10000)  -- returns-2
-    (λ c. search fittings depth 20 fits 10000)  -- returns-3
+    (λ c. search fittings depth 3 fits 10000)  -- returns
+    (λ c. search fittings depth 3 fits 10000)  -- returns-2
+    (λ c. search fittings depth 3 fits 10000)  -- returns-3
     )

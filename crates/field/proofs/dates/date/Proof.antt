@@ -12,7 +12,7 @@ date-spec =
     (λ c κs. search needs)  -- right-requires
     (λ c κs. search needs)  -- wrong-requires
     (λ c κs. search needs)  -- wrong-requires-2
-    (λ c. search vias depth 20 fits 10000)  -- returns
-    (λ c. search vias depth 20 fits 10000)  -- returns-2
-    (λ c. search vias depth 20 fits 10000)  -- returns-3
+    (λ c. search vias depth 4 fits 10000)  -- returns
+    (λ c. search vias depth 4 fits 10000)  -- returns-2
+    (λ c. search vias depth 4 fits 10000)  -- returns-3
     )

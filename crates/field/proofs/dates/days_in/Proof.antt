@@ -9,8 +9,8 @@ unfolding daysIn
 days-in-spec =
     tie.close
     (tie.spec
-    (λ c. search picks depth 20 fits 10000)  -- returns
-    (λ c. search picks depth 20 fits 10000)  -- returns-2
+    (λ c. search picks depth 3 fits 10000)  -- returns
+    (λ c. search picks depth 3 fits 10000)  -- returns-2
     (λ c. search thirty)  -- returns-3
     (λ c. search thirty-one)  -- returns-4
     )

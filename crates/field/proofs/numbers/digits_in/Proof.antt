@@ -7,9 +7,9 @@ pub digits-in-spec : {M : Type 1} → statement M
 digits-in-spec =
     tie.close
     (tie.spec
-    (λ c. search digits depth 20 fits 10000)  -- returns
+    (λ c. search digits depth 3 fits 10000)  -- returns
     (λ c κs. search needs)  -- is-digits-requires
-    (λ c κs. search digits depth 20 fits 10000)  -- value-requires
-    (λ c. search digits depth 20 fits 10000)  -- returns-2
-    (λ c. search digits depth 20 fits 10000)  -- returns-3
+    (λ c κs. search digits depth 3 fits 10000)  -- value-requires
+    (λ c. search digits depth 3 fits 10000)  -- returns-2
+    (λ c. search digits depth 3 fits 10000)  -- returns-3
     )

@@ -8,7 +8,7 @@ equal-answer-spec =
     tie.close
     (tie.spec
     (λ c κs. search needs)  -- digits-at-requires
-    (λ c. search vias depth 20 fits 10000)  -- returns
-    (λ c. search vias depth 20 fits 10000)  -- returns-2
-    (λ c. search vias depth 20 fits 10000)  -- returns-3
+    (λ c. search vias depth 4 fits 10000)  -- returns
+    (λ c. search vias depth 4 fits 10000)  -- returns-2
+    (λ c. search vias depth 4 fits 10000)  -- returns-3
     )

@@ -10,11 +10,11 @@ in-range-spec =
     tie.close
     (tie.spec
     (λ c κs. search needs)  -- wrong-requires
-    (λ c. search picks depth 20 fits 10000)  -- returns
+    (λ c. search picks depth 3 fits 10000)  -- returns
     (λ c κs. search needs)  -- wrong-requires-2
-    (λ c. search picks depth 20 fits 10000)  -- returns-2
+    (λ c. search picks depth 3 fits 10000)  -- returns-2
     (λ c κs. search needs)  -- right-requires
     (λ c κs. search needs)  -- wrong-requires-3
-    (λ c. search picks depth 20 fits 10000)  -- returns-3
-    (λ c. search picks depth 20 fits 10000)  -- returns-4
+    (λ c. search picks depth 3 fits 10000)  -- returns-3
+    (λ c. search picks depth 3 fits 10000)  -- returns-4
     )

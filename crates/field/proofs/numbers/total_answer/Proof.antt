@@ -8,7 +8,7 @@ total-answer-spec =
     tie.close
     (tie.spec
     (λ c κs. search needs)  -- ranged-requires
-    (λ c. search mores depth 20 fits 10000)  -- returns
-    (λ c. search mores depth 20 fits 10000)  -- returns-2
-    (λ c. search mores depth 20 fits 10000)  -- returns-3
+    (λ c. search mores depth 3 fits 10000)  -- returns
+    (λ c. search mores depth 3 fits 10000)  -- returns-2
+    (λ c. search mores depth 3 fits 10000)  -- returns-3
     )

@@ -16,14 +16,14 @@ value-spec =
     (tie.spec
     Inv-loop
     μ-loop
-    (λ c. search readings depth 20 fits 10000)  -- loop-holds
-    (λ c. search readings depth 20 fits 10000)  -- mul-v
-    (λ c. search readings depth 20 fits 10000)  -- shared-slice-read-wide
-    (λ c. search readings depth 20 fits 10000)  -- sub-wide
-    (λ c κs. search readings depth 20 fits 10000)  -- wide-requires
-    (λ c. search readings depth 20 fits 10000)  -- add-v
-    (λ c. search readings depth 20 fits 10000)  -- add-i
-    (λ c. search readings depth 20 fits 10000)  -- loop-less
-    (λ c. search readings depth 20 fits 10000)  -- loop-again
-    (λ c. search readings depth 20 fits 10000)  -- returns
+    (λ c. search readings depth 3 fits 10000)  -- loop-holds
+    (λ c. search readings depth 3 fits 10000)  -- mul-v
+    (λ c. search readings depth 3 fits 10000)  -- shared-slice-read-wide
+    (λ c. search readings depth 3 fits 10000)  -- sub-wide
+    (λ c κs. search readings depth 3 fits 10000)  -- wide-requires
+    (λ c. search readings depth 3 fits 10000)  -- add-v
+    (λ c. search readings depth 3 fits 10000)  -- add-i
+    (λ c. search readings depth 3 fits 10000)  -- loop-less
+    (λ c. search readings depth 3 fits 10000)  -- loop-again
+    (λ c. search readings depth 3 fits 10000)  -- returns
     )

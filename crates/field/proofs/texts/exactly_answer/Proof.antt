@@ -8,9 +8,9 @@ exactly-answer-spec =
     tie.close
     (tie.spec
     (λ c κs. search needs)  -- filled-no-requires
-    (λ c. search forms depth 20 fits 10000)  -- returns
+    (λ c. search forms depth 3 fits 10000)  -- returns
     (λ c κs. search needs)  -- part-requires
     (λ c κs. search needs)  -- is-same-requires
-    (λ c. search forms depth 20 fits 10000)  -- returns-2
-    (λ c. search forms depth 20 fits 10000)  -- returns-3
+    (λ c. search forms depth 3 fits 10000)  -- returns-2
+    (λ c. search forms depth 3 fits 10000)  -- returns-3
     )

@@ -10,7 +10,7 @@ filled-answer-spec =
     (λ c κs. search needs)  -- part-requires
     (λ c κs. search needs)  -- is-printable-requires
     (λ c κs. search needs)  -- is-left-justified-requires
-    (λ c. search forms depth 20 fits 10000)  -- returns
-    (λ c. search forms depth 20 fits 10000)  -- returns-2
-    (λ c. search forms depth 20 fits 10000)  -- returns-3
+    (λ c. search forms depth 3 fits 10000)  -- returns
+    (λ c. search forms depth 3 fits 10000)  -- returns-2
+    (λ c. search forms depth 3 fits 10000)  -- returns-3
     )

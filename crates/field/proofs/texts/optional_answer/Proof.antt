@@ -9,7 +9,7 @@ optional-answer-spec =
     (tie.spec
     (λ c κs. search needs)  -- part-requires
     (λ c κs. search needs)  -- is-blank-requires
-    (λ c. search forms depth 20 fits 10000)  -- returns
+    (λ c. search forms depth 3 fits 10000)  -- returns
     (λ c κs. search needs)  -- filled-no-requires
-    (λ c. search forms depth 20 fits 10000)  -- returns-2
+    (λ c. search forms depth 3 fits 10000)  -- returns-2
     )
