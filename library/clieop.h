@@ -1,11 +1,12 @@
 /* CLIEOP03 payment files: check a file, take an item out of it, write it again.
  *
- * Each function returns the answer's number: 0 accepted, 1 to 11 the file's refusal, 12 no room, 13 no such batch or item
- * (docs/FORMAT.md has the table). Every input of every length and content gets an answer; no function allocates, keeps
- * anything or reads anything but what it is lent. Pointers are not null, and what is lent to be written overlaps nothing else.
+ * Each function returns one number with its answer, line and column, which the three macros below read. The answer is 0 accepted,
+ * 1 to 11 the file's refusal, 12 no room, 13 no such batch or item (docs/FORMAT.md has the table). An accepted file's line is its
+ * number of lines. What is lent is written with answer 0 only; any other answer leaves all of it as it was.
  *
- * Line, column and the numbers after them are written to the front of `place`. Where `places` is too small for all of them
- * nothing is written at all, and 12 is returned where nothing else applies.
+ * Every file of every length and content, and every length of what is lent, gets an answer; no function allocates, keeps anything or
+ * reads anything but what it is lent. What C cannot promise is the caller's part: no pointer is null, each has as many bytes or numbers
+ * behind it as its length says, and what is lent to be written overlaps nothing else that is lent.
  */
 #ifndef CLIEOP_H
 #define CLIEOP_H
@@ -13,24 +14,28 @@
 #include <stddef.h>
 #include <stdint.h>
 
+/* Of a number that a function returned. */
+#define CLIEOP_ANSWER(r) ((uint8_t)((uint64_t)(r) & 255))
+#define CLIEOP_COLUMN(r) ((uint8_t)((uint64_t)(r) >> 8 & 255))
+#define CLIEOP_LINE(r) ((uint64_t)(r) >> 16)
+
 #ifdef __cplusplus
 extern "C" {
 #endif
 
-/* place: line, column. An accepted file's line is its number of lines. */
-uint8_t clieop_check(const uint8_t *file, size_t length, uint64_t *place, size_t places);
+/* The answer of a file. */
+uint64_t clieop_check(const uint8_t *file, size_t length);
 
 /* Item number `item` of batch number `batch`, both counted from 1.
- * place: line, column, type (0, 3, 5, 8, 1001 or 1002), amount in cents, payer, beneficiary; these last four are 0 unless 0 is returned.
- * texts: four descriptions of 32 characters, the reference in 16, the first 24 characters of the name; what there is none of is spaces.
- * They are 168 bytes, untouched unless 0 is returned. Where `room` is smaller, 12 is returned where nothing else applies. */
-uint8_t clieop_item(const uint8_t *file, size_t length, uint64_t batch, uint64_t item, uint8_t *texts, size_t room,
-                    uint64_t *place, size_t places);
+ * numbers: type (0, 3, 5, 8, 1001 or 1002), amount in cents, payer, beneficiary; `count` is how many are lent.
+ * texts: four descriptions of 32 characters, the reference in 16, the first 24 characters of the name, 168 bytes together; what there is
+ * none of is spaces. Where `count` is under 4 or `room` under 168, the answer is 12 where nothing else applies. */
+uint64_t clieop_item(const uint8_t *file, size_t length, uint64_t batch, uint64_t item, uint8_t *texts, size_t room,
+                     uint64_t *numbers, size_t count);
 
-/* The file written again without its city records into out, which is untouched unless 0 is returned.
- * place: line, column, number of bytes written. Where `room` is smaller than what is to be written, 12 is returned where nothing else applies,
- * and line is the file's number of lines: 52 bytes for each are room enough. */
-uint8_t clieop_rewrite(const uint8_t *file, size_t length, uint8_t *out, size_t room, uint64_t *place, size_t places);
+/* The file written again without its city records to the front of out, and to `written` how many bytes that are. Where `room` is
+ * smaller, the answer is 12 where nothing else applies, and its line is the file's number of lines: 52 bytes for each are room enough. */
+uint64_t clieop_rewrite(const uint8_t *file, size_t length, uint8_t *out, size_t room, uint64_t *written);
 
 #ifdef __cplusplus
 }

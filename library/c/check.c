@@ -7,13 +7,12 @@ static uint8_t file[64 << 20];
 
 int main(void)
 {
-    uint64_t place[2];
     size_t length = fread(file, 1, sizeof file, stdin);
     if (ferror(stdin) || !feof(stdin)) {
         fputs("check: cannot read the whole file\n", stderr);
         return 2;
     }
-    uint8_t answer = clieop_check(file, length, place, 2);
-    printf("answer=%u\nline=%llu\ncolumn=%llu\n", answer, (unsigned long long)place[0], (unsigned long long)place[1]);
-    return answer != 0;
+    uint64_t r = clieop_check(file, length);
+    printf("answer=%u\nline=%llu\ncolumn=%u\n", CLIEOP_ANSWER(r), (unsigned long long)CLIEOP_LINE(r), CLIEOP_COLUMN(r));
+    return CLIEOP_ANSWER(r) != 0;
 }

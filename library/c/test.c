@@ -1,4 +1,4 @@
-/* Answers of document 01 through the C interface, and what happens to places and rooms that are too small. */
+/* Answers of document 01 through the C interface, and what happens to lent arrays that are too small. */
 #include "clieop.h"
 
 #include <stdio.h>
@@ -39,43 +39,52 @@ static void expect(const char *what, uint64_t got, uint64_t wanted)
     failed++;
 }
 
-static void check(void)
+/* an answer, its line and its column */
+static void told(const char *what, uint64_t r, uint8_t answer, uint64_t line, uint8_t column)
 {
-    uint64_t place[3] = {7, 7, 7};
-    expect("accepted", clieop_check(file, LINES * 52, place, 3), 0);
-    expect("its number of lines", place[0], LINES);
-    expect("its column", place[1], 0);
-    expect("the number after", place[2], 7);
-    expect("a byte after the trailer", clieop_check(file, LINES * 52 + 1, place, 2), 11);
-    expect("its line", place[0], LINES + 1);
-    expect("cut in line 3", clieop_check(file, 2 * 52 + 30, place, 2), 1);
-    expect("its line", place[0], 3);
-    expect("nothing", clieop_check(file, 0, place, 2), 10);
-    expect("its line", place[0], 1);
+    expect(what, CLIEOP_ANSWER(r), answer);
+    expect("its line", CLIEOP_LINE(r), line);
+    expect("its column", CLIEOP_COLUMN(r), column);
 }
 
-static void small_place(void)
+static void check(void)
 {
-    uint64_t place[1] = {7};
-    expect("accepted, without room", clieop_check(file, LINES * 52, place, 1), 12);
-    expect("refused, without room", clieop_check(file, 52, place, 1), 10);
-    expect("the place", place[0], 7);
+    told("accepted", clieop_check(file, LINES * 52), 0, LINES, 0);
+    told("a byte after the trailer", clieop_check(file, LINES * 52 + 1), 11, LINES + 1, 0);
+    told("cut in line 3", clieop_check(file, 2 * 52 + 30), 1, 3, 0);
+    told("nothing", clieop_check(file, 0), 10, 1, 0);
+}
+
+/* a wrong sum of accounts in the trailer: the column is the field's */
+static void column(void)
+{
+    uint8_t wrong[LINES * 52];
+    memcpy(wrong, file, sizeof wrong);
+    wrong[7 * 52 + 32] = '3';
+    told("another sum", clieop_check(wrong, sizeof wrong), 9, 8, 24);
+}
+
+/* a filler that is not blank, told by its first column */
+static void filler(void)
+{
+    uint8_t wrong[LINES * 52];
+    memcpy(wrong, file, sizeof wrong);
+    wrong[3 * 52 + 49] = 'X';
+    told("a filler", clieop_check(wrong, sizeof wrong), 4, 4, 49);
 }
 
 /* numbers and texts of 01's example */
 static void item(void)
 {
     uint8_t texts[169];
-    uint64_t place[7] = {7, 7, 7, 7, 7, 7, 7};
+    uint64_t numbers[5] = {7, 7, 7, 7, 7};
     memset(texts, 7, sizeof texts);
-    expect("item 2", clieop_item(file, LINES * 52, 1, 2, texts, sizeof texts, place, 7), 0);
-    expect("its number of lines", place[0], LINES);
-    expect("its column", place[1], 0);
-    expect("its type", place[2], 3);
-    expect("its amount", place[3], 2550);
-    expect("its payer", place[4], 123456789);
-    expect("its beneficiary", place[5], 1234);
-    expect("the number after", place[6], 7);
+    told("item 2", clieop_item(file, LINES * 52, 1, 2, texts, sizeof texts, numbers, 5), 0, LINES, 0);
+    expect("its type", numbers[0], 3);
+    expect("its amount", numbers[1], 2550);
+    expect("its payer", numbers[2], 123456789);
+    expect("its beneficiary", numbers[3], 1234);
+    expect("the number after", numbers[4], 7);
     expect("its descriptions", (uint64_t)memcmp(texts, file + 2 * 52 + 5, 32), 0);
     expect("its name", (uint64_t)memcmp(texts + 144, file + 6 * 52 + 5, 24), 0);
     for (int i = 32; i < 144; i++)
@@ -83,56 +92,51 @@ static void item(void)
     expect("the byte after", texts[168], 7);
 }
 
-/* a refusal, with the numbers that it leaves; the texts stay */
-static void refused(const char *what, size_t length, uint64_t batch, uint64_t number, size_t room, uint8_t answer, uint64_t line)
+/* a refusal; the numbers and the texts stay */
+static void refused(const char *what, size_t length, uint64_t number, size_t room, size_t count, uint8_t answer, uint64_t line)
 {
     uint8_t texts[168];
-    uint64_t place[6] = {7, 7, 7, 7, 7, 7};
+    uint64_t numbers[4] = {7, 7, 7, 7};
     memset(texts, 7, sizeof texts);
-    expect(what, clieop_item(file, length, batch, number, texts, room, place, 6), answer);
-    expect("its line", place[0], line);
-    for (int i = 1; i < 6; i++)
-        expect("a number after the line", place[i], 0);
+    told(what, clieop_item(file, length, 1, number, texts, room, numbers, count), answer, line, 0);
+    for (int i = 0; i < 4; i++)
+        expect("a number", numbers[i], 7);
     for (int i = 0; i < 168; i++)
         expect("a text's byte", texts[i], 7);
 }
 
 static void no_item(void)
 {
-    refused("batch 0", LINES * 52, 0, 1, 168, 13, LINES);
-    refused("item 0", LINES * 52, 1, 0, 168, 13, LINES);
-    refused("item 3", LINES * 52, 1, 3, 168, 13, LINES);
-    refused("batch 2", LINES * 52, 2, 1, 168, 13, LINES);
-    refused("the file's own refusal", LINES * 52 + 1, 2, 1, 168, 11, LINES + 1);
-    refused("no room", LINES * 52, 1, 1, 167, 12, LINES);
-    refused("no such item, without room", LINES * 52, 1, 3, 0, 13, LINES);
-    refused("the file's own refusal, without room", 52, 1, 1, 0, 10, 2);
+    uint8_t texts[168];
+    uint64_t numbers[4];
+    told("batch 0", clieop_item(file, LINES * 52, 0, 1, texts, sizeof texts, numbers, 4), 13, LINES, 0);
+    told("batch 2", clieop_item(file, LINES * 52, 2, 1, texts, sizeof texts, numbers, 4), 13, LINES, 0);
+    refused("item 0", LINES * 52, 0, 168, 4, 13, LINES);
+    refused("item 3", LINES * 52, 3, 168, 4, 13, LINES);
+    refused("the file's own refusal", LINES * 52 + 1, 3, 168, 4, 11, LINES + 1);
 }
 
-static void small_item_place(void)
+static void small_arrays(void)
 {
-    uint8_t texts[168] = {7};
-    uint64_t place[5] = {7, 7, 7, 7, 7};
-    expect("no place", clieop_item(file, LINES * 52, 1, 1, texts, sizeof texts, place, 5), 12);
-    expect("no such item, without place", clieop_item(file, LINES * 52, 1, 3, texts, sizeof texts, place, 5), 13);
-    expect("refused, without place", clieop_item(file, 52, 1, 1, texts, sizeof texts, place, 5), 10);
-    for (int i = 0; i < 5; i++)
-        expect("the place", place[i], 7);
-    expect("the texts", texts[0], 7);
+    refused("no room for texts", LINES * 52, 1, 167, 4, 12, LINES);
+    refused("no room for numbers", LINES * 52, 1, 168, 3, 12, LINES);
+    refused("no such item, without room for texts", LINES * 52, 3, 0, 4, 13, LINES);
+    refused("no such item, without room for numbers", LINES * 52, 3, 168, 0, 13, LINES);
+    refused("the file's own refusal, without room for texts", 52, 1, 0, 4, 10, 2);
+    refused("the file's own refusal, without room for numbers", 52, 1, 168, 0, 10, 2);
 }
 
 static void rewrite(void)
 {
     static uint8_t out[LINES * 52 + 1];
-    uint64_t place[3];
+    uint64_t written = 7;
     out[LINES * 52] = 7;
-    expect("no room", clieop_rewrite(file, LINES * 52, out, LINES * 52 - 1, place, 3), 12);
+    told("no room", clieop_rewrite(file, LINES * 52, out, LINES * 52 - 1, &written), 12, LINES, 0);
+    told("the file's own refusal", clieop_rewrite(file, LINES * 52 + 1, out, sizeof out, &written), 11, LINES + 1, 0);
     expect("its first byte", out[0], 0);
-    expect("no place", clieop_rewrite(file, LINES * 52, out, sizeof out, place, 2), 12);
-    expect("its first byte", out[0], 0);
-    expect("written again", clieop_rewrite(file, LINES * 52, out, sizeof out, place, 3), 0);
-    expect("its line", place[0], LINES);
-    expect("its bytes", place[2], LINES * 52);
+    expect("no bytes told", written, 7);
+    told("written again", clieop_rewrite(file, LINES * 52, out, sizeof out, &written), 0, LINES, 0);
+    expect("its bytes", written, LINES * 52);
     expect("the same bytes", (uint64_t)memcmp(out, file, LINES * 52), 0);
     expect("the byte after", out[LINES * 52], 7);
 }
@@ -141,10 +145,11 @@ int main(void)
 {
     fill();
     check();
-    small_place();
+    column();
+    filler();
     item();
     no_item();
-    small_item_place();
+    small_arrays();
     rewrite();
     printf("%s\n", failed ? "the C interface failed" : "the C interface: passed");
     return failed != 0;

@@ -1,4 +1,4 @@
--- The numbers and texts of an item, put where there is room for all of them. Assumes nothing.
+-- The numbers and texts of an item, handed out where there is room for all of them. Assumes nothing.
 use Prim.Native.Nat.{ℕ, _+_, _≤_, _<_}
 use mathlib.Core.Path.{_≡_, refl, sym, ap, ap₂, subst, _∙_}
 use mathlib.Core.List.{List, [], _∷_, _++_, append-nil, append-assoc}
@@ -7,14 +7,17 @@ use mathlib.Core.Option.{Option, none, some}
 use native.Mathlib.Omega.{arith}
 use borrow.Author.Needs.{needs}
 use borrow.Author.Tests.{eq-eqb, ne-eqb, eqb-false, le-leb, lt-leb}
-use lib.ListN.{length, take, drop, length-append, length-drop, drop-of-length-le}
-use lib.Seq.{take-at, length-take-le}
+use lib.ListN.{length, set, take, drop, length-set, length-append, length-drop, drop-of-length-le}
+use lib.Seq.{take-at, drop-at, drop-drop, length-take-le}
 use lib.Dec.{leb, eqb}
-use Rattle.machine.specs.Lists.{pick, placed, putIn}
+use Rattle.machine.specs.Lists.{pick, same, placed, putIn}
+use Rattle.machine.specs.Digits.{digitsOnto, decimal, valueAfter}
 use Rattle.format.specs.Cutting.{rows}
+use Rattle.format.specs.Rules.{typeOf}
 use Rattle.format.specs.declared.TransactionType.{TransactionType}
+use Rattle.format.specs.declared.TransactionType.the-variants.{UncheckedCreditor, UncheckedSalary, Creditor, Salary, Debit, UncheckedDebit}
 use Rattle.format.specs.declared.TypeRead.{TypeRead}
-use Rattle.format.specs.declared.TypeRead.the-variants.{Of}
+use Rattle.format.specs.declared.TypeRead.the-variants.{Of, NoType}
 use Rattle.field.proofs.Putting.{put-fits, length-placed, placed-both}
 use Rattle.reading.specs.Check.{checkOf}
 use Rattle.reading.specs.declared.Answer.{Answer}
@@ -22,46 +25,134 @@ use Rattle.record.proofs.Typing.{of-case}
 use Rattle.items.specs.Search.{noFields, started, afterRows}
 use Rattle.items.specs.Answering.{told, isFound, answeredBy, roomBy, itemOf, roomAfter}
 use Rattle.items.specs.Promises.{Promised, ItemAt, handedOut, roomWith, textsFor, itemAt}
+use Rattle.items.specs.declared.ItemFields.{ItemFields}
 use Rattle.items.specs.declared.ItemRead.{ItemRead}
-use Rattle.clieop_c.specs.Places.{numberOf, typeNumber, itemAsked, itemPlace, textsWith, textsBy, itemTexts, describedRoom, ItemPromised}
+use Rattle.clieop_c.specs.Returned.{packed, unpacked, itemAnswer, numberOf, typeNumber, itemAsked, numbersWith, textsWith, itemNumbers, textsBy, itemTexts, fieldsWith, textsFound, Held, fieldsIn, itemBy, itemFound, describedRoom, ItemPromised}
+use Rattle.clieop_c.proofs.Packing.{check-line}
 
 -- ## The type
 
 pub type-of : {k : TypeRead} {y : TransactionType} {x : ℕ} → k ≡ Of y → x ≡ numberOf y → x ≡ typeNumber k
 type-of e h = of-case typeNumber e h
 
+-- its number is read back
+number-read : (y : TransactionType) → typeOf (decimal 4 (numberOf y)) ≡ Of y
+unfolding typeOf decimal digitsOnto numberOf valueAfter same pick
+number-read UncheckedCreditor = refl
+number-read UncheckedSalary = refl
+number-read Creditor = refl
+number-read Salary = refl
+number-read Debit = refl
+number-read UncheckedDebit = refl
+
+type-read : (k : TypeRead) → isFound k ≡ true → typeOf (decimal 4 (typeNumber k)) ≡ k
+type-read (Of y) h = number-read y
+type-read NoType h = absurd (let z : _≡_ {A = ℕ} 0 1 = cc in omega arith)
+
 -- ## Numbers
 
-module _ (r : ItemRead) (place : List ℕ) where
-  pub item-unplaced : length place < 6 → place ≡ itemPlace r place
-  unfolding itemPlace pick
-  item-unplaced h = rw (lt-leb 6 (length place) h) refl
+four-put : (a b c d : ℕ) (l : List ℕ) → 4 ≤ length l → set (set (set (set l 0 a) 1 b) 2 c) 3 d ≡ a ∷ b ∷ c ∷ d ∷ drop 4 l
+four-put a b c d [] h = absurd (omega arith)
+four-put a b c d (x ∷ []) h = absurd (omega arith)
+four-put a b c d (x ∷ y ∷ []) h = absurd (omega arith)
+four-put a b c d (x ∷ y ∷ z ∷ []) h = absurd (omega arith)
+four-put a b c d (x ∷ y ∷ z ∷ w ∷ l) h = refl
 
-  pub item-put : {column kind : ℕ} {o : List ℕ} → 6 ≤ length place → column ≡ r .column → kind ≡ typeNumber (r .fields .kind)
-      → o ≡ (r .line ∷ column ∷ kind ∷ r .fields .amount ∷ r .fields .payer ∷ r .fields .beneficiary ∷ []) ++ drop 6 place → o ≡ itemPlace r place
-  unfolding itemPlace pick
-  item-put h c k p =
-      p ∙ ap₂ (λ n m. r .line ∷ n ∷ m ∷ r .fields .amount ∷ r .fields .payer ∷ r .fields .beneficiary ∷ drop 6 place) c k ∙ rw (le-leb 6 (length place) h) refl
+pub second-in : (l : List ℕ) (a : ℕ) → 4 ≤ length l → 1 < length (set l 0 a)
+second-in l a h = rw length-set (omega arith)
 
-pub ruleset numbers = (item-unplaced, item-put, needs)
+pub third-in : (l : List ℕ) (a b : ℕ) → 4 ≤ length l → 2 < length (set (set l 0 a) 1 b)
+third-in l a b h = rw (length-set, length-set) (omega arith)
+
+pub numbers-put : {kind : ℕ} (f : ItemFields) (numbers : List ℕ) → 4 ≤ length numbers → kind ≡ typeNumber (f .kind)
+    → set (set (set (set numbers 0 kind) 1 (f .amount)) 2 (f .payer)) 3 (f .beneficiary) ≡ numbersWith f numbers
+unfolding numbersWith
+numbers-put {kind} f numbers h k =
+    four-put kind (f .amount) (f .payer) (f .beneficiary) numbers h ∙ ap (λ n. n ∷ f .amount ∷ f .payer ∷ f .beneficiary ∷ drop 4 numbers) k
+
+pub ruleset numbers = (second-in, third-in, numbers-put, needs)
 
 -- ## Texts
 
-pub texts-put : {t u : List ℕ} (x y texts : List ℕ) → length x ≡ 16 → length y ≡ 24 → 168 ≤ length texts → t ≡ putIn texts 128 x → u ≡ putIn t 144 y → u ≡ textsWith x y texts
-unfolding textsWith
-texts-put {t} x y texts h k l e f =
-    let p = put-fits texts 128 x (omega (arith, h)) e in
-    let n = ap length p ∙ length-placed texts 128 x (omega (arith, h)) in
-    let a : 144 ≡ 128 + length x = omega (arith, h) in
-    put-fits t 144 y (omega (arith, k, n)) f ∙ ap₂ (λ z m. placed z m y) p a ∙ placed-both texts 128 x y (omega (arith, h))
+module _ {t u : List ℕ} (f : ItemFields) (texts : List ℕ) (h : length (f .reference) ≡ 16) (k : length (f .name) ≡ 24) (l : 168 ≤ length texts) (e : t ≡ putIn texts 128 (f .reference)) (g : u ≡ putIn t 144 (f .name)) where
+  pub texts-put : u ≡ textsWith f texts
+  unfolding textsWith
+  texts-put =
+      let x = f .reference in
+      let p = put-fits texts 128 x (omega (arith, h)) e in
+      let n = ap length p ∙ length-placed texts 128 x (omega (arith, h)) in
+      let a : 144 ≡ 128 + length x = omega (arith, h) in
+      put-fits t 144 (f .name) (omega (arith, k, n)) g ∙ ap₂ (λ z m. placed z m (f .name)) p a ∙ placed-both texts 128 x (f .name) (omega (arith, h))
 
-pub ruleset texts = (texts-put, needs)
+  -- everything from the reference on
+  behind : drop 128 u ≡ f .reference ++ (f .name ++ drop (128 + length (f .reference ++ f .name)) texts)
+  unfolding textsWith placed
+  behind =
+      let both = f .reference ++ f .name in
+      let rest : List ℕ = drop (128 + length both) texts in
+      ap (drop 128) (texts-put ∙ append-assoc (take 128 texts) both rest) ∙ drop-at (take 128 texts) (both ++ rest) 128 (length-take-le 128 texts (omega arith)) ∙ append-assoc (f .reference) (f .name) rest
 
-texts-first : (x y t : List ℕ) → 128 ≤ length t → take 128 (textsWith x y t) ≡ take 128 t
+  reference-put : take 16 (drop 128 u) ≡ f .reference
+  reference-put = ap (take 16) behind ∙ take-at (f .reference) _ 16 h
+
+  name-put : take 24 (drop 144 u) ≡ f .name
+  name-put = ap (take 24) (sym (drop-drop 16 128 u) ∙ ap (drop 16) behind ∙ drop-at (f .reference) _ 16 h) ∙ take-at (f .name) _ 24 k
+
+  pub put-found : textsFound f u ≡ f
+  unfolding textsFound fieldsWith
+  put-found =
+      let x = reference-put in
+      let y = name-put in
+      λ i. record { kind = f .kind; amount = f .amount; payer = f .payer; beneficiary = f .beneficiary; reference = x i; name = y i }
+
+pub ruleset texts = (texts-put, put-found, needs)
+
+texts-first : (f : ItemFields) (t : List ℕ) → 128 ≤ length t → take 128 (textsWith f t) ≡ take 128 t
 unfolding textsWith placed
-texts-first x y t l =
-    let rest : List ℕ = drop (128 + length (x ++ y)) t in
-    ap (take 128) (append-assoc (take 128 t) (x ++ y) rest) ∙ take-at (take 128 t) ((x ++ y) ++ rest) 128 (length-take-le 128 t l)
+texts-first f t l =
+    let both = f .reference ++ f .name in
+    let rest : List ℕ = drop (128 + length both) t in
+    ap (take 128) (append-assoc (take 128 t) both rest) ∙ take-at (take 128 t) (both ++ rest) 128 (length-take-le 128 t l)
+
+-- ## The answer
+
+-- a refusal without fields, or an item with a type
+data Shape (line : ℕ) : ItemRead → Type 0 where
+  refusing : (number column : ℕ) → (number ≡ 0 → ⊥) → Shape line (told number line column noFields)
+  handing : (f : ItemFields) → isFound (f .kind) ≡ true → Shape line (told 0 line 0 f)
+
+shape-by : (a : Answer) (f : ItemFields) (p q w : Bool) → eqb (a .number) 0 ≡ p → isFound (f .kind) ≡ q
+    → Shape (a .line) (pick p (pick q (pick w (told 0 (a .line) 0 f) (told 12 (a .line) 0 noFields)) (told 13 (a .line) 0 noFields)) (told (a .number) (a .line) (a .column) noFields))
+unfolding pick
+shape-by a f true true true e h = handing f h
+shape-by a f true true false e h = refusing 12 0 (λ z. absurd (omega (arith, z)))
+shape-by a f true false w e h = refusing 13 0 (λ z. absurd (omega (arith, z)))
+shape-by a f false q w e h = refusing (a .number) (a .column) (eqb-false (a .number) 0 e)
+
+shape : (file : List ℕ) (batch item room : ℕ) → Shape (checkOf file .line) (itemOf file batch item room)
+unfolding itemOf answeredBy
+shape file batch item room =
+    let f = afterRows (started batch item) (rows file) .found .fields in
+    shape-by (checkOf file) f (eqb (checkOf file .number) 0) (isFound (f .kind)) (leb 128 room) refl refl
+
+line-shape : {line : ℕ} {r : ItemRead} → Shape line r → r .line ≡ line
+line-shape (refusing number column z) = refl
+line-shape (handing f h) = refl
+
+found-shape : {line : ℕ} {r : ItemRead} (before texts : List ℕ) → Shape line r → Held r texts → itemBy (itemAnswer r) (itemNumbers r before) texts ≡ r
+unfolding itemBy pick itemNumbers numbersWith fieldsIn textsFound Held
+found-shape before texts (refusing number column z) h = rw (ne-eqb number 0 z) refl
+found-shape {line} before texts (handing f g) h =
+    let k = ap (λ x. fieldsWith x (f .amount) (f .payer) (f .beneficiary) texts) (type-read (f .kind) g) ∙ h refl in
+    λ i. told 0 line 0 (k i)
+
+pub held-handed : (r : ItemRead) (texts : List ℕ) → textsFound (r .fields) texts ≡ r .fields → Held r texts
+unfolding Held
+held-handed r texts e z = e
+
+pub held-refused : (r : ItemRead) (texts : List ℕ) → (r .answer ≡ 0 → ⊥) → Held r texts
+unfolding Held
+held-refused r texts h z = absurd (h z)
 
 -- ## Without room
 
@@ -101,39 +192,47 @@ unfolding itemOf answeredBy pick
 lacking-refused file batch item = lacking (checkOf file) (isFound (afterRows (started batch item) (rows file) .found .fields .kind)) (eqb (checkOf file .number) 0) refl
 
 module _ {r : ItemRead} (file : List ℕ) (batch item places : ℕ) (e : r ≡ itemOf file batch item 0) where
-  pub asked-unplaced : (room : ℕ) → places < 6 → r ≡ itemAsked file batch item room places
-  unfolding itemAsked pick
-  asked-unplaced room h = e ∙ rw (lt-leb 6 places h) refl
+  lacking-answer : r .answer ≡ 0 → ⊥
+  lacking-answer w = lacking-refused file batch item (ap (λ (y : ItemRead). y .answer) (sym e) ∙ w)
 
-  pub asked-unroomed : (room : ℕ) → 6 ≤ places → room < 168 → r ≡ itemAsked file batch item room places
+  pub lacking-numbers : (numbers : List ℕ) → numbers ≡ itemNumbers r numbers
+  unfolding itemNumbers pick
+  lacking-numbers numbers = rw (ne-eqb _ _ lacking-answer) refl
+
+  pub lacking-held : (texts : List ℕ) → Held r texts
+  lacking-held texts = held-refused r texts lacking-answer
+
+  pub asked-unplaced : (room : ℕ) → places < 4 → r ≡ itemAsked file batch item room places
   unfolding itemAsked pick
-  asked-unroomed room h k = e ∙ rw (le-leb 6 places h, lt-leb 168 room k) refl
+  asked-unplaced room h = e ∙ rw (lt-leb 4 places h) refl
+
+  pub asked-unroomed : (room : ℕ) → 4 ≤ places → room < 168 → r ≡ itemAsked file batch item room places
+  unfolding itemAsked pick
+  asked-unroomed room h k = e ∙ rw (le-leb 4 places h, lt-leb 168 room k) refl
 
   untexted : (texts : List ℕ) → r ≡ itemAsked file batch item (length texts) places → texts ≡ itemTexts file batch item texts places
   unfolding itemTexts pick
   untexted texts g =
-      let z : itemAsked file batch item (length texts) places .answer ≡ 0 → ⊥ = λ w. lacking-refused file batch item (ap (λ (y : ItemRead). y .answer) (sym e ∙ g) ∙ w) in
+      let z : itemAsked file batch item (length texts) places .answer ≡ 0 → ⊥ = λ w. lacking-answer (ap (λ (y : ItemRead). y .answer) g ∙ w) in
       rw (ne-eqb _ _ z) refl
 
-  pub texts-unplaced : (texts : List ℕ) → places < 6 → texts ≡ itemTexts file batch item texts places
+  pub texts-unplaced : (texts : List ℕ) → places < 4 → texts ≡ itemTexts file batch item texts places
   texts-unplaced texts h = untexted texts (asked-unplaced (length texts) h)
 
-  pub texts-unroomed : (texts : List ℕ) → 6 ≤ places → length texts < 168 → texts ≡ itemTexts file batch item texts places
+  pub texts-unroomed : (texts : List ℕ) → 4 ≤ places → length texts < 168 → texts ≡ itemTexts file batch item texts places
   texts-unroomed texts h k = untexted texts (asked-unroomed (length texts) h k)
 
-module _ {r : ItemRead} (file : List ℕ) (batch item : ℕ) (texts : List ℕ) (places : ℕ) (e : r ≡ itemOf file batch item 0) (p : Promised file batch item [] r []) where
-  lacking-promised : r ≡ itemAsked file batch item (length texts) places → describedRoom texts places ≡ [] → ItemPromised file batch item texts places texts
-  lacking-promised g d = subst (λ x. Promised file batch item x (itemAsked file batch item (length texts) places) x) (sym d) (subst (λ y. Promised file batch item [] y []) g p)
+module _ {r : ItemRead} (file : List ℕ) (batch item : ℕ) (texts : List ℕ) (places : ℕ) (p : Promised file batch item [] r []) where
+  lacking-promised : describedRoom texts places ≡ [] → ItemPromised file batch item texts r texts places
+  lacking-promised d = subst (λ x. Promised file batch item x r x) (sym d) p
 
-  pub unplaced-promised : places < 6 → ItemPromised file batch item texts places texts
+  pub unplaced-promised : places < 4 → ItemPromised file batch item texts r texts places
   unfolding describedRoom pick
-  unplaced-promised h = lacking-promised (asked-unplaced file batch item places e (length texts) h) (rw (lt-leb 6 places h) refl)
+  unplaced-promised h = lacking-promised (rw (lt-leb 4 places h) refl)
 
-  pub unroomed-promised : 6 ≤ places → length texts < 168 → ItemPromised file batch item texts places texts
+  pub unroomed-promised : 4 ≤ places → length texts < 168 → ItemPromised file batch item texts r texts places
   unfolding describedRoom pick
-  unroomed-promised h k = lacking-promised (asked-unroomed file batch item places e (length texts) h k) (rw (le-leb 6 places h, lt-leb 168 (length texts) k) refl)
-
-pub ruleset lackings = (asked-unplaced, asked-unroomed, texts-unplaced, texts-unroomed, unplaced-promised, unroomed-promised, needs)
+  unroomed-promised h k = lacking-promised (rw (le-leb 4 places h, lt-leb 168 (length texts) k) refl)
 
 -- ## With room
 
@@ -149,18 +248,26 @@ unfolding itemOf answeredBy roomAfter roomBy
 refused-kept file batch item out h =
     kept-by (eqb (checkOf file .number) 0) (isFound (afterRows (started batch item) (rows file) .found .fields .kind)) (leb 128 (length out)) _ out _ _ _ _ refl h
 
-module _ {r : ItemRead} {places : ℕ} (file : List ℕ) (batch item : ℕ) (texts : List ℕ) (h : 6 ≤ places) (k : 168 ≤ length texts) (e : r ≡ itemOf file batch item (length texts)) where
+pub numbers-kept : (r : ItemRead) (numbers : List ℕ) → (r .answer ≡ 0 → ⊥) → numbers ≡ itemNumbers r numbers
+unfolding itemNumbers pick
+numbers-kept r numbers z = rw (ne-eqb _ _ z) refl
+
+pub numbers-handed : {o : List ℕ} (r : ItemRead) (numbers : List ℕ) → r .answer ≡ 0 → o ≡ numbersWith (r .fields) numbers → o ≡ itemNumbers r numbers
+unfolding itemNumbers pick
+numbers-handed r numbers z e = e ∙ rw (eq-eqb _ _ z) refl
+
+module _ {r : ItemRead} {places : ℕ} (file : List ℕ) (batch item : ℕ) (texts : List ℕ) (h : 4 ≤ places) (k : 168 ≤ length texts) (e : r ≡ itemOf file batch item (length texts)) where
   pub asked : r ≡ itemAsked file batch item (length texts) places
   unfolding itemAsked pick
-  asked = e ∙ rw (le-leb 6 places h, le-leb 168 (length texts) k) refl
+  asked = e ∙ rw (le-leb 4 places h, le-leb 168 (length texts) k) refl
 
   by-asked : (t : List ℕ) → textsBy r texts t ≡ textsBy (itemAsked file batch item (length texts) places) texts t
   by-asked t = ap (λ y. textsBy y texts t) asked
 
   module _ {t : List ℕ} (f : t ≡ roomAfter file batch item texts) where
-    pub texts-handed : {u : List ℕ} → r .answer ≡ 0 → u ≡ textsWith (r .fields .reference) (r .fields .name) t → u ≡ itemTexts file batch item texts places
+    pub texts-handed : {u : List ℕ} → r .answer ≡ 0 → u ≡ textsWith (r .fields) t → u ≡ itemTexts file batch item texts places
     unfolding itemTexts pick
-    texts-handed {u} z g = g ∙ ap (textsWith (r .fields .reference) (r .fields .name)) f ∙ rw (eq-eqb _ _ z) refl ∙ by-asked (roomAfter file batch item texts)
+    texts-handed {u} z g = g ∙ ap (textsWith (r .fields)) f ∙ rw (eq-eqb _ _ z) refl ∙ by-asked (roomAfter file batch item texts)
 
     pub texts-refused : (r .answer ≡ 0 → ⊥) → t ≡ itemTexts file batch item texts places
     unfolding itemTexts pick
@@ -201,30 +308,43 @@ module _ (out : List ℕ) (l : 128 ≤ length out) where
         untouched = λ h. ap (take 128) (p .untouched h);
       }
 
-room-all : (x : List ℕ) (places : ℕ) → 6 ≤ places → 168 ≤ length x → describedRoom x places ≡ take 128 x
+room-all : (x : List ℕ) (places : ℕ) → 4 ≤ places → 168 ≤ length x → describedRoom x places ≡ take 128 x
 unfolding describedRoom pick
-room-all x places h l = rw (le-leb 6 places h, le-leb 168 (length x) l) refl
+room-all x places h l = rw (le-leb 4 places h, le-leb 168 (length x) l) refl
 
-module _ {r : ItemRead} {t : List ℕ} (file : List ℕ) (batch item : ℕ) (texts : List ℕ) (places : ℕ) (e : r ≡ itemOf file batch item (length texts)) (k : length t ≡ length texts) (p : Promised file batch item texts r t) where
-  first-asked : (o : List ℕ) → 6 ≤ places → 168 ≤ length texts → length o ≡ length texts → take 128 o ≡ take 128 t → ItemPromised file batch item texts places o
-  first-asked o h l n d =
-      subst (λ x. Promised file batch item x (itemAsked file batch item (length texts) places) (describedRoom o places)) (sym (room-all texts places h l))
-      (subst (λ x. Promised file batch item (take 128 texts) (itemAsked file batch item (length texts) places) x) (sym (room-all o places h (omega (arith, l, n)) ∙ d))
-      (subst (λ y. Promised file batch item (take 128 texts) y (take 128 t)) (asked file batch item texts h l e) (first-promised texts (omega arith) k p)))
+module _ {r : ItemRead} {t : List ℕ} (file : List ℕ) (batch item : ℕ) (texts : List ℕ) (places : ℕ) (h : 4 ≤ places) (l : 168 ≤ length texts) (k : length t ≡ length texts) (p : Promised file batch item texts r t) where
+  first-asked : (o : List ℕ) → length o ≡ length texts → take 128 o ≡ take 128 t → ItemPromised file batch item texts r o places
+  first-asked o n d =
+      subst (λ x. Promised file batch item x r (describedRoom o places)) (sym (room-all texts places h l))
+      (subst (λ x. Promised file batch item (take 128 texts) r x) (sym (room-all o places h (omega (arith, l, n)) ∙ d))
+      (first-promised texts (omega arith) k p))
 
-  pub promised-refused : 6 ≤ places → 168 ≤ length texts → ItemPromised file batch item texts places t
-  promised-refused h l = first-asked t h l k refl
+  pub promised-refused : ItemPromised file batch item texts r t places
+  promised-refused = first-asked t k refl
 
-  pub promised-handed : (u : List ℕ) → 6 ≤ places → 168 ≤ length texts → length u ≡ length t → u ≡ textsWith (r .fields .reference) (r .fields .name) t → ItemPromised file batch item texts places u
-  promised-handed u h l n f = first-asked u h l (n ∙ k) (ap (take 128) f ∙ texts-first (r .fields .reference) (r .fields .name) t (omega (arith, k)))
+  pub promised-handed : (u : List ℕ) → length u ≡ length t → u ≡ textsWith (r .fields) t → ItemPromised file batch item texts r u places
+  promised-handed u n f = first-asked u (n ∙ k) (ap (take 128) f ∙ texts-first (r .fields) t (omega (arith, k)))
 
 -- ## The whole
 
-module _ {r : ItemRead} (file : List ℕ) (batch item : ℕ) (texts place : List ℕ) (e : r ≡ itemAsked file batch item (length texts) (length place)) where
-  pub whole-number : r .answer ≡ itemAsked file batch item (length texts) (length place) .answer
-  whole-number = ap (λ (y : ItemRead). y .answer) e
+module _ {r : ItemRead} (file : List ℕ) (batch item room places : ℕ) (e : r ≡ itemAsked file batch item room places) where
+  pub whole-line : r .line ≤ 6999369996
+  unfolding itemAsked
+  whole-line = subst (λ n. n ≤ 6999369996) (sym (ap (λ (y : ItemRead). y .line) e ∙ line-shape (shape file batch item _))) (check-line file)
 
-  pub whole-place : {o : List ℕ} → o ≡ itemPlace r place → o ≡ itemPlace (itemAsked file batch item (length texts) (length place)) place
-  whole-place h = h ∙ ap (λ y. itemPlace y place) e
+  pub whole-number : {n : ℕ} → n ≡ packed (itemAnswer r) → n ≡ packed (itemAnswer (itemAsked file batch item room places))
+  whole-number h = h ∙ ap (λ y. packed (itemAnswer y)) e
 
-pub ruleset wholes = (whole-number, whole-place, needs)
+  pub whole-numbers : {o : List ℕ} (numbers : List ℕ) → o ≡ itemNumbers r numbers → o ≡ itemNumbers (itemAsked file batch item room places) numbers
+  whole-numbers numbers h = h ∙ ap (λ y. itemNumbers y numbers) e
+
+  module _ (n : ℕ) (numbers before texts : List ℕ) (u : unpacked n ≡ itemAnswer r) (h : numbers ≡ itemNumbers r before) (t : Held r texts) where
+    own : itemFound n numbers texts ≡ r
+    unfolding itemAsked
+    own = ap₂ (λ a x. itemBy a x texts) u h ∙ found-shape before texts (subst (Shape (checkOf file .line)) (sym e) (shape file batch item _)) t
+
+    pub whole-found : itemFound n numbers texts ≡ itemAsked file batch item room places
+    whole-found = own ∙ e
+
+    pub whole-promised : (lent : List ℕ) → ItemPromised file batch item lent r texts places → ItemPromised file batch item lent (itemFound n numbers texts) texts places
+    whole-promised lent p = subst (λ y. ItemPromised file batch item lent y texts places) (sym own) p

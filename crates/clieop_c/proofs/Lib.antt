@@ -1,2 +1,3 @@
-pub mod Lent
+pub mod Packing
+pub mod Writing
 pub mod Handing

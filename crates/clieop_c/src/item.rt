@@ -1,16 +1,18 @@
 // An item of a file, for other languages.
 ghost use mathlib.Core.Path.{_≡_};
+ghost use mathlib.Core.List.{[]};
 ghost use Prim.Native.Nat.{_≤_};
 ghost use lib.ListN.{length};
-ghost use mathlib.Core.List.{[]};
 ghost use Rattle.items.specs.Answering.{itemOf};
 ghost use Rattle.items.specs.Promises.{Promised};
-ghost use Rattle.clieop_c.specs.Places.{typeNumber, numberOf, itemAsked, itemPlace, textsWith, itemTexts, ItemPromised};
-use crate::put_numbers;
+ghost use Rattle.clieop_c.specs.Returned.{packed, typeNumber, numberOf, itemAnswer, itemAsked, numbersWith, textsWith, textsFound, itemNumbers, itemTexts, Held, itemFound, ItemPromised};
+use crate::pack;
 use field::bytes::put;
 use format::TransactionType;
 use format::TypeRead;
+use items::ItemFields;
 use items::ItemRead;
+use reading::Answer;
 
 fn number_of(kind: TransactionType) -> u64
     ensures { λ r. ⌜ r ≡ numberOf kind ⌝ }
@@ -35,33 +37,25 @@ fn type_number(kind: TypeRead) -> u64
 }
 
 // The numbers of an item.
-fn put_item(r: ItemRead, place: &mut [u64])
-    ensures { λ _. ⌜ now (place .exit) ≡ itemPlace r (now (place .entry)) ⌝ }
+fn put_numbers(fields: ItemFields, numbers: &mut [u64])
+    requires { ⌜ 4 ≤ length (now numbers) ⌝ }
+    ensures { λ _. ⌜ now (numbers .exit) ≡ numbersWith fields (now (numbers .entry)) ⌝ }
 {
-    if place.len() < 6 {
-        return;
-    }
-    let fields = r.fields;
     let kind = fields.kind;
-    let number = type_number(kind);
-    put_numbers(
-        &[
-            r.line,
-            r.column as u64,
-            number,
-            fields.amount,
-            fields.payer,
-            fields.beneficiary,
-        ],
-        place,
-    );
+    numbers[0] = type_number(kind);
+    numbers[1] = fields.amount;
+    numbers[2] = fields.payer;
+    numbers[3] = fields.beneficiary;
 }
 
 // The reference and the name, behind the descriptions.
-fn put_texts(reference: [u8; 16], name: [u8; 24], texts: &mut [u8])
+fn put_texts(fields: ItemFields, texts: &mut [u8])
     requires { ⌜ 168 ≤ length (now texts) ⌝ }
-    ensures { λ _. ⌜ now (texts .exit) ≡ textsWith reference name (now (texts .entry)) ⌝ }
+    ensures texts { λ _. ⌜ now (texts .exit) ≡ textsWith fields (now (texts .entry)) ⌝ }
+    ensures found { λ _. ⌜ textsFound fields (now (texts .exit)) ≡ fields ⌝ }
 {
+    let reference = fields.reference;
+    let name = fields.name;
     put(&reference, 128, texts);
     put(&name, 144, texts);
 }
@@ -75,13 +69,15 @@ fn without_room(file: &[u8], batch: u64, item: u64) -> ItemRead
     items::item(file, batch, item, &mut room)
 }
 
-// The item, its texts put where there is room for all of it.
-fn with_texts(file: &[u8], batch: u64, item: u64, texts: &mut [u8], places: usize) -> ItemRead
-    ensures answer { λ r. ⌜ r ≡ itemAsked (now (file .entry)) batch item (length (now (texts .entry))) places ⌝ }
-    ensures texts { λ _. ⌜ now (texts .exit) ≡ itemTexts (now (file .entry)) batch item (now (texts .entry)) places ⌝ }
-    ensures meaning { λ _. ⌜ ItemPromised (now (file .entry)) batch item (now (texts .entry)) places (now (texts .exit)) ⌝ }
+// The item, handed out where there is room for all of it; and what `items::item` promises, with the first 128 bytes as its room.
+fn hand_out(file: &[u8], batch: u64, item: u64, texts: &mut [u8], numbers: &mut [u64]) -> ItemRead
+    ensures answer { λ r. ⌜ r ≡ itemAsked (now (file .entry)) batch item (length (now (texts .entry))) (length (now (numbers .entry))) ⌝ }
+    ensures numbers { λ r. ⌜ now (numbers .exit) ≡ itemNumbers r (now (numbers .entry)) ⌝ }
+    ensures texts { λ _. ⌜ now (texts .exit) ≡ itemTexts (now (file .entry)) batch item (now (texts .entry)) (length (now (numbers .entry))) ⌝ }
+    ensures held { λ r. ⌜ Held r (now (texts .exit)) ⌝ }
+    ensures meaning { λ r. ⌜ ItemPromised (now (file .entry)) batch item (now (texts .entry)) r (now (texts .exit)) (length (now (numbers .entry))) ⌝ }
 {
-    if places < 6 {
+    if numbers.len() < 4 {
         return without_room(file, batch, item);
     }
     if texts.len() < 168 {
@@ -90,29 +86,33 @@ fn with_texts(file: &[u8], batch: u64, item: u64, texts: &mut [u8], places: usiz
     let r = items::item(file, batch, item, texts);
     if r.answer == 0 {
         let fields = r.fields;
-        let reference = fields.reference;
-        let name = fields.name;
-        put_texts(reference, name, texts);
+        put_texts(fields, texts);
+        put_numbers(fields, numbers);
     }
     r
 }
 
-// Item `item` of batch `batch`, each from 1: line, column, type, amount, payer and beneficiary to the first six of `place`; the four
-// descriptions, the reference and the name to the first 168 bytes of `texts`. What `items::item` promises holds with the first 128 as its room.
+// Item `item` of batch `batch`, each from 1: its type, amount, payer and beneficiary to the first four of `numbers`; the four descriptions,
+// the reference and the name to the first 168 bytes of `texts`.
 #[no_mangle]
 pub extern "C" fn clieop_item(
     file: &[u8],
     batch: u64,
     item: u64,
     texts: &mut [u8],
-    place: &mut [u64],
-) -> u8
-    ensures number { λ r. ⌜ r ≡ itemAsked (now (file .entry)) batch item (length (now (texts .entry))) (length (now (place .entry))) .answer ⌝ }
-    ensures place { λ _. ⌜ now (place .exit) ≡ itemPlace (itemAsked (now (file .entry)) batch item (length (now (texts .entry))) (length (now (place .entry)))) (now (place .entry)) ⌝ }
-    ensures texts { λ _. ⌜ now (texts .exit) ≡ itemTexts (now (file .entry)) batch item (now (texts .entry)) (length (now (place .entry))) ⌝ }
-    ensures meaning { λ _. ⌜ ItemPromised (now (file .entry)) batch item (now (texts .entry)) (length (now (place .entry))) (now (texts .exit)) ⌝ }
+    numbers: &mut [u64],
+) -> u64
+    ensures number { λ r. ⌜ r ≡ packed (itemAnswer (itemAsked (now (file .entry)) batch item (length (now (texts .entry))) (length (now (numbers .entry))))) ⌝ }
+    ensures numbers { λ _. ⌜ now (numbers .exit) ≡ itemNumbers (itemAsked (now (file .entry)) batch item (length (now (texts .entry))) (length (now (numbers .entry)))) (now (numbers .entry)) ⌝ }
+    ensures texts { λ _. ⌜ now (texts .exit) ≡ itemTexts (now (file .entry)) batch item (now (texts .entry)) (length (now (numbers .entry))) ⌝ }
+    ensures found { λ r. ⌜ itemFound r (now (numbers .exit)) (now (texts .exit)) ≡ itemAsked (now (file .entry)) batch item (length (now (texts .entry))) (length (now (numbers .entry))) ⌝ }
+    ensures meaning { λ r. ⌜ ItemPromised (now (file .entry)) batch item (now (texts .entry)) (itemFound r (now (numbers .exit)) (now (texts .exit))) (now (texts .exit)) (length (now (numbers .entry))) ⌝ }
 {
-    let r = with_texts(file, batch, item, texts, place.len());
-    put_item(r, place);
-    r.answer
+    let r = hand_out(file, batch, item, texts, numbers);
+    let a = Answer {
+        number: r.answer,
+        line: r.line,
+        column: r.column,
+    };
+    pack(a)
 }

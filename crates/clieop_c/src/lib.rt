@@ -1,15 +1,13 @@
 // The library for other languages: functions on numbers and slices, each slice a pointer and a length there (library/clieop.h).
-// Each returns the answer's number. Line and column, and the numbers after them, go to the front of `place`; where it has no room
-// for all of them it is left as it was, and 12 is returned where nothing else applies.
+// Each returns its answer, column and line in one number. What is lent is written with answer 0 only.
 ghost use mathlib.Core.Path.{_≡_};
-ghost use mathlib.Core.List.{_++_};
 ghost use Prim.Native.Nat.{_≤_};
-ghost use lib.ListN.{length, drop};
+ghost use lib.ListN.{length};
 ghost use Rattle.reading.specs.Check.{checkOf};
 ghost use Rattle.theorem.specs.Meaning.{Means};
-ghost use Rattle.rewriting.specs.Rewriting.{rewrittenOf};
+ghost use Rattle.rewriting.specs.Rewriting.{rewrittenOf, roomAfter};
 ghost use Rattle.rewriting.specs.Promises.{Promised};
-ghost use Rattle.clieop_c.specs.Places.{numberFor, checkNumber, checkPlace, rewriteNumber, rewritePlace, rewriteRoom};
+ghost use Rattle.clieop_c.specs.Returned.{packed, unpacked, rewriteAnswer, writtenAfter, rewriteFound};
 use reading::Answer;
 use rewriting::Rewritten;
 
@@ -17,75 +15,54 @@ mod item;
 
 pub use item::clieop_item;
 
-// The number of an answer, with room for what comes with it or without.
-fn number_for(number: u8, room: bool) -> u8
-    ensures { λ r. ⌜ r ≡ numberFor number room ⌝ }
+// An answer in one number: it in the lowest byte, its column in the next, its line above them. (No line is above 6,999,369,996, the one
+// after the longest file.)
+fn pack(a: Answer) -> u64
+    requires { ⌜ a .line ≤ 6999369996 ⌝ }
+    ensures number { λ r. ⌜ r ≡ packed a ⌝ }
+    ensures read { λ r. ⌜ unpacked r ≡ a ⌝ }
 {
-    if room {
-        return number;
-    }
-    if number == 0 {
-        return format::NO_ROOM;
-    }
-    number
+    let number = a.number as u64;
+    let column = 256 * a.column as u64;
+    let line = 65536 * a.line;
+    number + column + line
 }
 
-// Numbers at the front of a place.
-fn put_numbers(numbers: &[u64], place: &mut [u64])
-    requires { ⌜ length (now numbers) ≤ length (now place) ⌝ }
-    ensures { λ _. ⌜ now (place .exit) ≡ now (numbers .entry) ++ drop (length (now (numbers .entry))) (now (place .entry)) ⌝ }
+// How many bytes were written, where they were.
+fn put_written(r: Rewritten, written: &mut u64)
+    ensures { λ _. ⌜ now (written .exit) ≡ writtenAfter r (now (written .entry)) ⌝ }
 {
-    let mut i: usize = 0;
-    while i < numbers.len() {
-        place[i] = numbers[i];
-        i += 1;
+    if r.answer == 0 {
+        *written = r.written as u64;
     }
 }
 
-// An answer's number, its line and column put.
-fn put_answer(a: Answer, place: &mut [u64]) -> u8
-    ensures number { λ r. ⌜ r ≡ checkNumber a (length (now (place .entry))) ⌝ }
-    ensures place { λ _. ⌜ now (place .exit) ≡ checkPlace a (now (place .entry)) ⌝ }
-{
-    if place.len() < 2 {
-        return number_for(a.number, false);
-    }
-    put_numbers(&[a.line, a.column as u64], place);
-    a.number
-}
-
-// The numbers of a file written again.
-fn put_rewritten(r: Rewritten, place: &mut [u64])
-    requires { ⌜ 3 ≤ length (now place) ⌝ }
-    ensures { λ _. ⌜ now (place .exit) ≡ rewritePlace r (now (place .entry)) ⌝ }
-{
-    put_numbers(&[r.line, r.column as u64, r.written as u64], place);
-}
-
-// The answer of a file: line and column to the first two of `place`.
+// The answer of a file, and what it means.
 #[no_mangle]
-pub extern "C" fn clieop_check(file: &[u8], place: &mut [u64]) -> u8
-    ensures number { λ r. ⌜ r ≡ checkNumber (checkOf (now (file .entry))) (length (now (place .entry))) ⌝ }
-    ensures place { λ _. ⌜ now (place .exit) ≡ checkPlace (checkOf (now (file .entry))) (now (place .entry)) ⌝ }
-    ensures meaning { λ _. ⌜ Means (now (file .entry)) (checkOf (now (file .entry))) ⌝ }
+pub extern "C" fn clieop_check(file: &[u8]) -> u64
+    ensures number { λ r. ⌜ r ≡ packed (checkOf (now (file .entry))) ⌝ }
+    ensures answer { λ r. ⌜ unpacked r ≡ checkOf (now (file .entry)) ⌝ }
+    ensures meaning { λ r. ⌜ Means (now (file .entry)) (unpacked r) ⌝ }
 {
     let a = file::check(file);
-    put_answer(a, place)
+    pack(a)
 }
 
-// A file written again without its city records: line, column and the number of bytes written to the first three of `place`.
+// A file written again without its city records to the front of `out`, and to `written` how many bytes that are.
 #[no_mangle]
-pub extern "C" fn clieop_rewrite(file: &[u8], out: &mut [u8], place: &mut [u64]) -> u8
-    ensures number { λ r. ⌜ r ≡ rewriteNumber (now (file .entry)) (length (now (out .entry))) (length (now (place .entry))) ⌝ }
-    ensures place { λ _. ⌜ now (place .exit) ≡ rewritePlace (rewrittenOf (now (file .entry)) (length (now (out .entry)))) (now (place .entry)) ⌝ }
-    ensures bytes { λ _. ⌜ now (out .exit) ≡ rewriteRoom (now (file .entry)) (now (out .entry)) (length (now (place .entry))) ⌝ }
-    ensures again { λ _. ⌜ (3 ≤ length (now (place .entry)) → Promised (now (file .entry)) (rewrittenOf (now (file .entry)) (length (now (out .entry)))) (now (out .exit))) ⌝ }
+pub extern "C" fn clieop_rewrite(file: &[u8], out: &mut [u8], written: &mut u64) -> u64
+    ensures number { λ r. ⌜ r ≡ packed (rewriteAnswer (rewrittenOf (now (file .entry)) (length (now (out .entry))))) ⌝ }
+    ensures written { λ _. ⌜ now (written .exit) ≡ writtenAfter (rewrittenOf (now (file .entry)) (length (now (out .entry)))) (now (written .entry)) ⌝ }
+    ensures bytes { λ _. ⌜ now (out .exit) ≡ roomAfter (now (file .entry)) (now (out .entry)) ⌝ }
+    ensures found { λ r. ⌜ rewriteFound r (now (written .exit)) ≡ rewrittenOf (now (file .entry)) (length (now (out .entry))) ⌝ }
+    ensures again { λ r. ⌜ Promised (now (file .entry)) (rewriteFound r (now (written .exit))) (now (out .exit)) ⌝ }
 {
-    if place.len() < 3 {
-        let a = file::check(file);
-        return number_for(a.number, false);
-    }
     let r = rewriting::rewrite(file, out);
-    put_rewritten(r, place);
-    r.answer
+    put_written(r, written);
+    let a = Answer {
+        number: r.answer,
+        line: r.line,
+        column: r.column,
+    };
+    pack(a)
 }

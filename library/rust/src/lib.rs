@@ -6,7 +6,7 @@
 
 mod c {
     extern "C" {
-        pub fn clieop_check(file: *const u8, length: usize, place: *mut u64, places: usize) -> u8;
+        pub fn clieop_check(file: *const u8, length: usize) -> u64;
         pub fn clieop_item(
             file: *const u8,
             length: usize,
@@ -14,17 +14,16 @@ mod c {
             item: u64,
             texts: *mut u8,
             room: usize,
-            place: *mut u64,
-            places: usize,
-        ) -> u8;
+            numbers: *mut u64,
+            count: usize,
+        ) -> u64;
         pub fn clieop_rewrite(
             file: *const u8,
             length: usize,
             out: *mut u8,
             room: usize,
-            place: *mut u64,
-            places: usize,
-        ) -> u8;
+            written: *mut u64,
+        ) -> u64;
     }
 }
 
@@ -39,6 +38,16 @@ pub struct Answer {
 impl Answer {
     pub fn is_accepted(&self) -> bool {
         self.number == 0
+    }
+
+    /// As the library returns it: the answer in the lowest byte, the column in
+    /// the next, the line above them.
+    fn unpacked(returned: u64) -> Answer {
+        Answer {
+            number: (returned & 255) as u8,
+            line: returned >> 16,
+            column: returned >> 8 & 255,
+        }
     }
 }
 
@@ -57,18 +66,14 @@ pub struct Item {
 
 /// The answer of a whole file; an accepted one's line is its number of lines.
 pub fn check(file: &[u8]) -> Answer {
-    let mut place = [0; 2];
-    let number = unsafe {
-        c::clieop_check(file.as_ptr(), file.len(), place.as_mut_ptr(), place.len())
-    };
-    Answer { number, line: place[0], column: place[1] }
+    Answer::unpacked(unsafe { c::clieop_check(file.as_ptr(), file.len()) })
 }
 
 /// Item number `item` of batch number `batch`, both counted from 1.
 pub fn item(file: &[u8], batch: u64, item: u64) -> Result<Item, Answer> {
     let mut texts = [0; 168];
-    let mut place = [0; 6];
-    let number = unsafe {
+    let mut numbers = [0; 4];
+    let answer = Answer::unpacked(unsafe {
         c::clieop_item(
             file.as_ptr(),
             file.len(),
@@ -76,23 +81,23 @@ pub fn item(file: &[u8], batch: u64, item: u64) -> Result<Item, Answer> {
             item,
             texts.as_mut_ptr(),
             texts.len(),
-            place.as_mut_ptr(),
-            place.len(),
+            numbers.as_mut_ptr(),
+            numbers.len(),
         )
-    };
-    let [line, column, kind, amount, payer, beneficiary] = place;
-    match number {
-        0 => Ok(Item {
-            kind,
-            amount,
-            payer,
-            beneficiary,
-            reference: text(&texts, 128),
-            name: text(&texts, 144),
-            descriptions: [0, 32, 64, 96].map(|at| text(&texts, at)),
-        }),
-        _ => Err(Answer { number, line, column }),
+    });
+    if !answer.is_accepted() {
+        return Err(answer);
     }
+    let [kind, amount, payer, beneficiary] = numbers;
+    Ok(Item {
+        kind,
+        amount,
+        payer,
+        beneficiary,
+        reference: text(&texts, 128),
+        name: text(&texts, 144),
+        descriptions: [0, 32, 64, 96].map(|at| text(&texts, at)),
+    })
 }
 
 /// The text of N characters that begins at a byte of an item's texts.
@@ -103,19 +108,19 @@ fn text<const N: usize>(texts: &[u8; 168], at: usize) -> [u8; N] {
 /// The file written again without its city records, to the front of `out`:
 /// how many bytes that are, or the refusal, which leaves `out` as it was.
 pub fn rewrite(file: &[u8], out: &mut [u8]) -> Result<usize, Answer> {
-    let mut place = [0; 3];
-    let number = unsafe {
+    let mut written = 0;
+    let answer = Answer::unpacked(unsafe {
         c::clieop_rewrite(
             file.as_ptr(),
             file.len(),
             out.as_mut_ptr(),
             out.len(),
-            place.as_mut_ptr(),
-            place.len(),
+            &mut written,
         )
-    };
-    match number {
-        0 => Ok(place[2] as usize),
-        _ => Err(Answer { number, line: place[0], column: place[1] }),
+    });
+    if answer.is_accepted() {
+        Ok(written as usize)
+    } else {
+        Err(answer)
     }
 }

@@ -55,6 +55,15 @@ fn a_byte_after_the_trailer_is_refused() {
 }
 
 #[test]
+fn a_wrong_sum_of_accounts_names_its_column() {
+    let mut bytes = example();
+    bytes[7 * 52 + 32] = b'3';
+    assert_eq!(check(&bytes), answer(9, 8, 24));
+    assert_eq!(item(&bytes, 1, 1), Err(answer(9, 8, 24)));
+    assert_eq!(rewrite(&bytes, &mut []), Err(answer(9, 8, 24)));
+}
+
+#[test]
 fn a_file_without_cities_is_written_again_byte_for_byte() {
     let bytes = example();
     let mut out = vec![7; bytes.len() + 3];

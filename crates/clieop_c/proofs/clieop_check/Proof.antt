@@ -1,5 +1,5 @@
 use borrow.Author.Needs.{needs}
-use Rattle.clieop_c.proofs.Lent.{checks}
+use Rattle.clieop_c.proofs.Packing.{checks}
 use Rattle.clieop_c.proofs.clieop_check.Statement.{statement}
 use Rattle.clieop_c.proofs.clieop_check.Tie as tie
 
@@ -8,7 +8,6 @@ clieop-check-spec =
     tie.close
     (tie.spec
     (λ c κs. search needs)  -- check-requires
-    (λ c κs. search needs)  -- put-answer-requires
-    (λ c. search needs)  -- same-length
+    (λ c κs. search checks depth 20 fits 10000)  -- pack-requires
     (λ c. search checks depth 20 fits 10000)  -- returns
     )

@@ -1,5 +1,5 @@
 use borrow.Author.Needs.{needs}
-use Rattle.clieop_c.proofs.Lent.{again-unplaced, again-untouched, again-unwritten, again-unasked, again-number, again-place, again-written, again-promised}
+use Rattle.clieop_c.proofs.Writing.{again-line, again-number, again-written, again-found, again-promised}
 use Rattle.clieop_c.proofs.clieop_rewrite.Statement.{statement}
 use Rattle.clieop_c.proofs.clieop_rewrite.Tie as tie
 
@@ -7,12 +7,9 @@ pub clieop-rewrite-spec : {M : Type 1} → statement M
 clieop-rewrite-spec =
     tie.close
     (tie.spec
-    (λ c κs. search needs)  -- check-requires
-    (λ c κs. search needs)  -- number-for-requires
-    (λ c. (search (again-unplaced, needs), (search (again-untouched, needs), (search (again-unwritten, needs), search (again-unasked, needs)))))  -- returns
     (λ c κs. search needs)  -- rewrite-requires
-    (λ c κs. search needs)  -- put-rewritten-requires
+    (λ c κs. search needs)  -- put-written-requires
+    (λ c κs. search (again-line, needs) depth 20 fits 10000)  -- pack-requires
     (λ c. search needs)  -- same-length
-    (λ c. search needs)  -- same-length-2
-    (λ c. (search (again-number, needs), (search (again-place, needs), (search (again-written, needs), search (again-promised, needs)))))  -- returns-2
+    (λ c. (search (again-number, needs) depth 20 fits 10000, (search (again-written, needs) depth 20 fits 10000, (search needs, (search (again-found, needs) depth 20 fits 10000, search (again-promised, needs) depth 20 fits 10000)))))  -- returns
     )

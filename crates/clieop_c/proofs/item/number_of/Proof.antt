@@ -1,6 +1,6 @@
 use borrow.Author.Needs.{needs}
 use Rattle.machine.specs.Digits.{valueAfter}
-use Rattle.clieop_c.specs.Places.{numberOf}
+use Rattle.clieop_c.specs.Returned.{numberOf}
 use Rattle.clieop_c.proofs.item.number_of.Statement.{statement}
 use Rattle.clieop_c.proofs.item.number_of.Tie as tie
 

@@ -1,0 +1,79 @@
+-- An answer in one number, and how it is read. Assumes nothing.
+use Prim.Native.Nat.{ℕ, _+_, _*_, _/_, _%_, _≤_, _<_}
+use mathlib.Core.Path.{_≡_, refl, sym, ap, subst, _∙_}
+use mathlib.Core.List.{List}
+use mathlib.Core.Bool.{Bool, true, false}
+use native.Mathlib.Omega.{arith}
+use borrow.Author.Needs.{needs}
+use borrow.Author.Tests.{eqb-false}
+use lib.Dec.{eqb}
+use Rattle.machine.specs.Lists.{pick}
+use Rattle.reading.specs.State.{startState, within}
+use Rattle.reading.specs.Step.{isDone, refusalLine, nothingRead, endedAt}
+use Rattle.reading.specs.Check.{linesOf, answerOf, checkOf}
+use Rattle.reading.specs.declared.State.{State}
+use Rattle.reading.specs.declared.Judged.{Judged}
+use Rattle.reading.specs.declared.Answer.{Answer}
+use Rattle.reading.proofs.Limits.{within-line}
+use Rattle.reading.proofs.Answers.{file-named}
+use Rattle.theorem.specs.Meaning.{answer, Means}
+use Rattle.clieop_c.specs.Returned.{packed, unpacked}
+
+-- WHAT WAS PACKED IS READ BACK
+module _ (a : Answer) (n : a .number < 256) (c : a .column < 256) where
+  pub read-packed : unpacked (packed a) ≡ a
+  unfolding unpacked packed
+  read-packed =
+      let x : (a .number + 256 * a .column + 65536 * a .line) % 256 ≡ a .number = omega arith in
+      let y : (a .number + 256 * a .column + 65536 * a .line) / 65536 ≡ a .line = omega arith in
+      let q : (a .number + 256 * a .column + 65536 * a .line) / 256 ≡ a .column + 256 * a .line = omega arith in
+      let m : (a .column + 256 * a .line) % 256 ≡ a .column = omega arith in
+      let z = ap (λ d. d % 256) q ∙ m in
+      λ i. answer (x i) (y i) (z i)
+
+-- of an answer's parts
+module _ {number column : ℕ} (a : Answer) (n : number ≡ a .number) (c : column ≡ a .column) where
+  pub packs : number + 256 * column + 65536 * a .line ≡ packed a
+  unfolding packed
+  packs = rw (n, c) refl
+
+  pub packs-read : a .number < 256 → a .column < 256 → unpacked (number + 256 * column + 65536 * a .line) ≡ a
+  packs-read h k = ap unpacked packs ∙ read-packed a h k
+
+pub ruleset packing = (packs, packs-read, needs)
+
+-- ## No answer of a file names a line above 6,999,369,996
+
+ended-line : (s : State) (w d : Bool) → within s ≡ w → pick w (pick d (nothingRead s 0 (s .line) 0) (nothingRead s 10 (s .line + 1) 0)) (nothingRead s 24 0 0) .line ≤ 6999369996
+unfolding pick
+ended-line s true true e = omega (arith, within-line s e)
+ended-line s true false e = omega (arith, within-line s e)
+ended-line s false d e = omega arith
+
+judged-line : (file : List ℕ) (j : Judged) (q : Bool) → j ≡ linesOf startState file → eqb (j .number) 0 ≡ q
+    → pick q (answerOf (endedAt (j .next))) (record { number = j .number; line = refusalLine (j .number) (j .next .line); column = j .column }) .line ≤ 6999369996
+unfolding pick endedAt
+judged-line file j true e h = ended-line (j .next) (within (j .next)) (isDone (j .next)) refl
+judged-line file j false e h = file-named file refl e (eqb-false (j .number) 0 h)
+
+pub check-line : (file : List ℕ) → checkOf file .line ≤ 6999369996
+unfolding checkOf
+check-line file = judged-line file (linesOf startState file) (eqb (linesOf startState file .number) 0) refl refl
+
+-- ## The answer of a file
+
+module _ {a : Answer} (file : List ℕ) (e : a ≡ checkOf file) where
+  pub line-packs : a .line ≤ 6999369996
+  line-packs = subst (λ (y : Answer). y .line ≤ 6999369996) (sym e) (check-line file)
+
+  pub check-number : {r : ℕ} → r ≡ packed a → r ≡ packed (checkOf file)
+  check-number n = n ∙ ap packed e
+
+  module _ (r : ℕ) (u : unpacked r ≡ a) where
+    pub check-answer : unpacked r ≡ checkOf file
+    check-answer = u ∙ e
+
+    pub check-means : Means file a → Means file (unpacked r)
+    check-means m = subst (Means file) (sym u) m
+
+pub ruleset checks = (line-packs, check-number, check-answer, check-means, needs)

@@ -1,0 +1,78 @@
+-- A file written again, for one who reads the number returned. Assumes nothing.
+use Prim.Native.Nat.{ℕ, _≤_}
+use mathlib.Core.Path.{_≡_, refl, sym, ap, ap₂, subst, _∙_}
+use mathlib.Core.List.{List}
+use mathlib.Core.Bool.{Bool, true, false}
+use native.Mathlib.Omega.{arith}
+use borrow.Author.Needs.{needs}
+use borrow.Author.Tests.{eq-eqb, ne-eqb, eqb-false}
+use lib.ListN.{length}
+use lib.Dec.{leb, eqb}
+use Rattle.machine.specs.Lists.{pick}
+use Rattle.reading.specs.Check.{checkOf}
+use Rattle.reading.specs.declared.Answer.{Answer}
+use Rattle.rewriting.specs.Cities.{withoutCities}
+use Rattle.rewriting.specs.Rewriting.{told, rewrittenOf}
+use Rattle.rewriting.specs.Promises.{Promised}
+use Rattle.rewriting.specs.declared.Rewritten.{Rewritten}
+use Rattle.clieop_c.specs.Returned.{packed, unpacked, rewriteAnswer, writtenAfter, rewriteBy, rewriteFound}
+use Rattle.clieop_c.proofs.Packing.{check-line}
+
+-- ## How many bytes
+
+module _ (r : Rewritten) (before : ℕ) where
+  pub written-told : {n : ℕ} → r .answer ≡ 0 → n ≡ r .written → n ≡ writtenAfter r before
+  unfolding writtenAfter pick
+  written-told z e = e ∙ rw (eq-eqb _ _ z) refl
+
+  pub written-kept : (r .answer ≡ 0 → ⊥) → before ≡ writtenAfter r before
+  unfolding writtenAfter pick
+  written-kept z = rw (ne-eqb _ _ z) refl
+
+pub ruleset writtens = (written-told, written-kept, needs)
+
+-- ## What a caller finds
+
+-- an answer is a refusal that wrote nothing, or an acceptance
+data Shape (line : ℕ) : Rewritten → Type 0 where
+  refusing : (number column : ℕ) → (number ≡ 0 → ⊥) → Shape line (told number line column 0)
+  writing : (n : ℕ) → Shape line (told 0 line 0 n)
+
+shape-by : (a : Answer) (p q : Bool) (n : ℕ) → eqb (a .number) 0 ≡ p → Shape (a .line) (pick p (pick q (told 0 (a .line) 0 n) (told 12 (a .line) 0 0)) (told (a .number) (a .line) (a .column) 0))
+unfolding pick
+shape-by a true true n e = writing n
+shape-by a true false n e = refusing 12 0 (λ z. absurd (omega (arith, z)))
+shape-by a false q n e = refusing (a .number) (a .column) (eqb-false (a .number) 0 e)
+
+shape : (file : List ℕ) (room : ℕ) → Shape (checkOf file .line) (rewrittenOf file room)
+unfolding rewrittenOf
+shape file room = shape-by (checkOf file) (eqb (checkOf file .number) 0) (leb (length (withoutCities file)) room) (length (withoutCities file)) refl
+
+found-shape : {line : ℕ} {w : Rewritten} (before : ℕ) → Shape line w → rewriteBy (rewriteAnswer w) (writtenAfter w before) ≡ w
+unfolding rewriteBy writtenAfter pick
+found-shape before (refusing number column z) = rw (ne-eqb number 0 z) refl
+found-shape before (writing n) = refl
+
+line-shape : {line : ℕ} {w : Rewritten} → Shape line w → w .line ≡ line
+line-shape (refusing number column z) = refl
+line-shape (writing n) = refl
+
+module _ {w : Rewritten} (file : List ℕ) (room : ℕ) (e : w ≡ rewrittenOf file room) where
+  pub again-line : w .line ≤ 6999369996
+  again-line = subst (λ n. n ≤ 6999369996) (sym (ap (λ (y : Rewritten). y .line) e ∙ line-shape (shape file room))) (check-line file)
+
+  pub again-number : {r : ℕ} → r ≡ packed (rewriteAnswer w) → r ≡ packed (rewriteAnswer (rewrittenOf file room))
+  again-number n = n ∙ ap (λ y. packed (rewriteAnswer y)) e
+
+  module _ {n : ℕ} (before : ℕ) (h : n ≡ writtenAfter w before) where
+    pub again-written : n ≡ writtenAfter (rewrittenOf file room) before
+    again-written = h ∙ ap (λ y. writtenAfter y before) e
+
+    module _ (r : ℕ) (u : unpacked r ≡ rewriteAnswer w) where
+      pub again-found : rewriteFound r n ≡ rewrittenOf file room
+      again-found = ap₂ rewriteBy (u ∙ ap rewriteAnswer e) again-written ∙ found-shape before (shape file room)
+
+      pub again-promised : (out : List ℕ) → Promised file w out → Promised file (rewriteFound r n) out
+      again-promised out p = subst (λ y. Promised file y out) (e ∙ sym again-found) p
+
+pub ruleset agains = (again-line, again-number, again-written, again-found, again-promised, needs)
