@@ -81,22 +81,15 @@ textsBy r texts described = pick (eqb (r .answer) accepted) (textsWith (r .field
 unfoldable pub itemTexts : List ℕ → ℕ → ℕ → List ℕ → ℕ → List ℕ
 itemTexts file batch item texts places = textsBy (itemAsked file batch item (length texts) places) texts (descriptionsAfter file batch item texts)
 
--- what a caller finds: the answer, and with 0 the fields in the lent numbers and texts
+-- of the texts that a caller finds, the reference and the name
 unfoldable pub fieldsWith : TypeRead → ℕ → ℕ → ℕ → List ℕ → ItemFields
 fieldsWith kind amount payer beneficiary texts =
     record { kind = kind; amount = amount; payer = payer; beneficiary = beneficiary; reference = take 16 (drop 128 texts); name = take 24 (drop 144 texts) }
 
--- an item's fields with the texts that a caller finds
-unfoldable pub textsFound : ItemFields → List ℕ → ItemFields
-textsFound f texts = fieldsWith (f .kind) (f .amount) (f .payer) (f .beneficiary) texts
-
--- those of an item that is handed out are its own
-unfoldable pub Held : ItemRead → List ℕ → Type 0
-Held r texts = r .answer ≡ accepted → textsFound (r .fields) texts ≡ r .fields
-
 unfoldable pub fieldsIn : List ℕ → List ℕ → ItemFields
 fieldsIn numbers texts = fieldsWith (typeOf (decimal 4 (getD numbers 0 0))) (getD numbers 1 0) (getD numbers 2 0) (getD numbers 3 0) texts
 
+-- what a caller finds: the answer, and with 0 the fields in the lent numbers and texts
 unfoldable pub itemBy : Answer → List ℕ → List ℕ → ItemRead
 itemBy a numbers texts = toldItem (a .number) (a .line) (a .column) (pick (eqb (a .number) accepted) (fieldsIn numbers texts) noFields)
 
@@ -110,3 +103,13 @@ describedRoom texts places = pick (leb 4 places) (pick (leb 168 (length texts)) 
 -- what `items::item` promises, of what a caller finds and with that room, before the call and after it
 abbrev pub ItemPromised : List ℕ → ℕ → ℕ → List ℕ → ItemRead → List ℕ → ℕ → Type 0
 ItemPromised file batch item texts found after places = Promised file batch item (describedRoom texts places) found (describedRoom after places)
+
+-- ## Between the functions of this crate
+
+-- an item's fields with the texts that a caller finds
+unfoldable pub textsFound : ItemFields → List ℕ → ItemFields
+textsFound f texts = fieldsWith (f .kind) (f .amount) (f .payer) (f .beneficiary) texts
+
+-- of an item that is handed out they are its own
+unfoldable pub Held : ItemRead → List ℕ → Type 0
+Held r texts = r .answer ≡ accepted → textsFound (r .fields) texts ≡ r .fields
