@@ -12,6 +12,9 @@ mergeOf limit fixed own = take limit (fixed ++ own)
 
 -- ## In places
 
+abbrev pub places : ℕ
+places = 4
+
 abbrev pub least : ℕ → ℕ → ℕ
 least a b = pick (leb a b) a b
 
@@ -20,9 +23,9 @@ abbrev pub textsIn : ℕ → List ℕ → List (List ℕ)
 textsIn zero l = []
 textsIn (suc n) l = take 32 l ∷ textsIn n (drop 32 l)
 
--- a count above four counts as four
+-- a count above the places counts as they do
 abbrev pub textsOf : Descriptions → List (List ℕ)
-textsOf d = textsIn (least (d .count) 4) (d .text)
+textsOf d = textsIn (least (d .count) places) (d .text)
 
 abbrev pub joined : List (List ℕ) → List ℕ
 joined [] = []
@@ -36,14 +39,14 @@ inPlaces room ts = record { text = joined ts ++ drop (32 * length ts) room; coun
 abbrev pub noTexts : Descriptions
 noTexts = record { text = spaces 128; count = 0 }
 
--- a limit above four counts as four
+-- a limit above the places counts as they do
 unfoldable pub merged : Descriptions → Descriptions → ℕ → Descriptions
-merged fixed own limit = inPlaces (spaces 128) (mergeOf (least limit 4) (textsOf fixed) (textsOf own))
+merged fixed own limit = inPlaces (spaces 128) (mergeOf (least limit places) (textsOf fixed) (textsOf own))
 
 -- the first 32 characters, filled with spaces
 abbrev pub textFrom : List ℕ → List ℕ
 textFrom t = take 32 (t ++ spaces 32)
 
--- one more text, where there are fewer than four
+-- one more text, where a place is left
 unfoldable pub withText : Descriptions → List ℕ → Descriptions
-withText d t = pick (ltb (d .count) 4) (inPlaces (d .text) (textsOf d ++ (textFrom t ∷ []))) d
+withText d t = pick (ltb (d .count) places) (inPlaces (d .text) (textsOf d ++ (textFrom t ∷ []))) d

@@ -4,7 +4,7 @@ ghost use mathlib.Core.List.{_++_};
 ghost use Prim.Native.Nat.{_+_, _*_, _≤_};
 ghost use lib.ListN.{take, drop};
 ghost use Rattle.machine.specs.Lists.{spaces};
-ghost use Rattle.descriptions.specs.Texts.{least, noTexts, merged, withText};
+ghost use Rattle.descriptions.specs.Texts.{places, least, noTexts, merged, withText};
 use field::bytes::part;
 use field::bytes::put;
 
@@ -25,7 +25,7 @@ fn least_of(a: u64, b: u64) -> u64
 
 // The first texts of one, then the first of the other, and spaces.
 fn texts_of_both(before: [u8; 128], first: u64, after: [u8; 128], rest: u64) -> [u8; 128]
-    requires { ⌜ first + rest ≤ 4 ⌝ }
+    requires { ⌜ first + rest ≤ places ⌝ }
     ensures { λ r. ⌜ r ≡ (take (32 * first) before ++ take (32 * rest) after) ++ drop (32 * (first + rest)) (spaces 128) ⌝ }
 {
     let mut text = [32u8; 128];
@@ -40,7 +40,7 @@ fn texts_of_both(before: [u8; 128], first: u64, after: [u8; 128], rest: u64) -> 
 pub fn merge(fixed: Descriptions, own: Descriptions, limit: u64) -> Descriptions
     ensures { λ r. ⌜ r ≡ merged fixed own limit ⌝ }
 {
-    let most = least_of(limit, 4);
+    let most = least_of(limit, Descriptions::PLACES);
     let first = least_of(fixed.count, most);
     let rest = least_of(own.count, most - first);
     let before = fixed.text;
@@ -51,6 +51,8 @@ pub fn merge(fixed: Descriptions, own: Descriptions, limit: u64) -> Descriptions
 }
 
 impl Descriptions {
+    pub const PLACES: u64 = 4;
+
     pub fn none() -> Descriptions
         ensures { λ r. ⌜ r ≡ noTexts ⌝ }
     {
@@ -65,7 +67,7 @@ impl Descriptions {
         ensures { λ r. ⌜ r ≡ withText self (now (text .entry)) ⌝ }
     {
         let count = self.count;
-        if count < 4 {
+        if count < Descriptions::PLACES {
             let mut filled = [32u8; 32];
             put(part(text, 0, 32), 0, &mut filled);
             let start = 32 * count;

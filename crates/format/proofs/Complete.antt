@@ -12,7 +12,7 @@ use Rattle.machine.specs.Lists.{same, inRange}
 use Rattle.machine.proofs.Base.{and-i, same-refl}
 use Rattle.format.specs.Fields.{filled, Fit, Fits}
 use Rattle.format.specs.Records.{layout, Fields}
-use Rattle.format.specs.Rules.{maxAmount, maxTotal, maxItems, maxAccount, maxSequence, mostDescriptions, CLIEOP03, EUR, groupText, isGroup, groupOf, typeOf, isType, isTypeIn, needsName}
+use Rattle.format.specs.Rules.{maxAmount, maxTotal, maxItems, maxAccount, maxSequence, maxFixed, mostDescriptions, CLIEOP03, EUR, groupText, isGroup, groupOf, typeOf, isType, isTypeIn, needsName}
 use Rattle.format.specs.Language.{Name, Item, Batch, File, totalOf, accountsOf, tenDigits, Rec, fileHeaderRec, batchHeaderRec, fixedRecs, orderingPartyRec, transactionRec, referenceRecs, descriptionRecs, cityRecs, nameRecs, itemRecs, batchesRecs, fileTrailerRecs, fileRecs, In, TransactionOk, ReferenceOk, DescriptionsOk, CityOk, NameOk, isSome, ItemOk, ItemsOk, Before, noneBefore, afterThat, Follows, BatchHeaderOk, OrderingPartyOk, BatchOk, BatchesOk, Valid}
 use Rattle.format.specs.Tests.{isNext, groupTests, batchHeaderTests, transactionTests}
 use Rattle.format.specs.declared.Kind.the-variants.{FileHeader, BatchHeaderB, BatchHeaderC, FixedDescription, OrderingParty, Transaction, NamePayer, CityPayer, PaymentReference, Description, NameBeneficiary, CityBeneficiary, BatchTrailer, FileTrailer}
@@ -182,12 +182,12 @@ fixed-path g s (t ∷ ts) (suc n) k l o q = go FixedDescription (t, (tt, tt)) fi
 
 -- what follows its header
 opened-path : (g : Group) (p : Before) (b : Batch) (bs : List Batch) → BatchOk g p b → Path (at (closed (some g)) (noBatch (afterThat p (b .sequence)))) (batchesRecs g bs fileTrailerRecs)
-    → Path (at (opened g 4) (newBatch (b .account) (afterThat p (b .sequence))))
+    → Path (at (opened g maxFixed) (newBatch (b .account) (afterThat p (b .sequence))))
     (fixedRecs (b .fixed)
     (orderingPartyRec (b .nameCode) (b .desired) (b .party) (b .testCode) ∷ trailed g (b .items) (totalOf (b .items)) (tenDigits (accountsOf (b .items))) (length (b .items)) bs))
 opened-path g p b bs o r =
     let s = newBatch (b .account) (afterThat p (b .sequence)) in
-    fixed-path g s (b .fixed) 4 _ (o .fixed-max) (o .fixed-ok)
+    fixed-path g s (b .fixed) maxFixed _ (o .fixed-max) (o .fixed-ok)
     (λ m. party-path g s m (b .nameCode) (b .desired) (b .party) (b .testCode) _ (o .party-ok)
     (first-items-path g (b .account) (afterThat p (b .sequence)) (b .items) bs (o .items-ok) (o .items-in) (o .total-max) r))
 
@@ -222,9 +222,9 @@ header-fits-b g p account number h = (group-fits g, (omega (arith, h .account-in
 header-fits-c : (g : Group) (p : Before) (account number : ℕ) (t : List ℕ) → BatchHeaderOk p account number (some t) → Fits (layout BatchHeaderC) (batchHeaderRec g account number (some t) .1)
 header-fits-c g p account number t h = (group-fits g, (omega (arith, h .account-in), (omega (arith, h .sequence-in), ((refl, tt), (h .identification-ok, (tt, tt))))))
 
-module _ (o : Option Group) (g : Group) (e : Agree o g) (s : Context) (account number : ℕ) (k : List Rec) (r : Path (at (opened g 4) (newBatch account (afterThat (s .before) number))) k) where
-  begun : Path (at (opened (groupOf (groupText g)) 4) (newBatch account (afterThat (s .before) number))) k
-  begun = subst (λ h. Path (at (opened h 4) (newBatch account (afterThat (s .before) number))) k) (sym (group-back g)) r
+module _ (o : Option Group) (g : Group) (e : Agree o g) (s : Context) (account number : ℕ) (k : List Rec) (r : Path (at (opened g maxFixed) (newBatch account (afterThat (s .before) number))) k) where
+  begun : Path (at (opened (groupOf (groupText g)) maxFixed) (newBatch account (afterThat (s .before) number))) k
+  begun = subst (λ h. Path (at (opened h maxFixed) (newBatch account (afterThat (s .before) number))) k) (sym (group-back g)) r
 
   pub first-batch-path : (i : Option (List ℕ)) → BatchHeaderOk (s .before) account number i → Path (at (headed o) s) (batchHeaderRec g account number i ∷ k)
   first-batch-path none h = go BatchHeaderB _ first-batch-b (record { fits = header-fits-b g (s .before) account number h; holds = header-holds o g e (s .before) account number h; max = tt }) begun

@@ -11,7 +11,7 @@ use Rattle.machine.specs.Lists.{pick, same}
 use Rattle.machine.specs.Digits.{valueAfter}
 use Rattle.format.specs.Fields.{filled, Fit}
 use Rattle.format.specs.Records.{layout, Fields, orderingAccount, unidentified, type, amount, payer, beneficiary}
-use Rattle.format.specs.Rules.{maxAmount, maxTotal, maxItems, maxAccount, isTestCode, daysIn, isDate, isDesiredDate, isIdentification, isOfDay, weighted, isEleven, isOrderingAccount, isAccount, isOwnPayer, isOwnBeneficiary, isNameCodeIn, typeText, typeOf, isTypeIn, needsName}
+use Rattle.format.specs.Rules.{maxAmount, maxTotal, maxItems, maxAccount, maxFixed, isTestCode, daysIn, isDate, isDesiredDate, isIdentification, isOfDay, weighted, isEleven, isOrderingAccount, isAccount, isOwnPayer, isOwnBeneficiary, isNameCodeIn, typeText, typeOf, isTypeIn, needsName}
 use Rattle.format.specs.Language.{Item, Rec, fileHeaderRec, fileTrailerRecs, In, NameOk, ItemOk, Before, noneBefore, afterThat, Follows, BatchHeaderOk, OrderingPartyOk}
 use Rattle.format.specs.Tests.{batchHeaderTests, transactionTests}
 use Rattle.format.specs.declared.Kind.{Kind}
@@ -204,7 +204,7 @@ a-header p e =
 from-headed : (o : Option Group) (s : Context) → s .before ≡ noneBefore → Way (at (headed o) s)
 from-headed o s e =
     let m = some-group o in
-    let q = from-opened (m .0) 4 (newBatch 123456789 (afterThat (s .before) 1)) (omega arith, an-account, refl, refl, refl) in
+    let q = from-opened (m .0) maxFixed (newBatch 123456789 (afterThat (s .before) 1)) (omega arith, an-account, refl, refl, refl) in
     (_, first-batch-path o (m .0) (m .1) s 123456789 1 (q .0) (q .1) none (a-header (s .before) e))
 
 -- the first of January 2009, and the first file of that day

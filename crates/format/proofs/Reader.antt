@@ -8,7 +8,7 @@ use Rattle.machine.specs.Lists.{same}
 use Rattle.machine.proofs.Base.{Outcome, refuse}
 use Rattle.format.specs.Fields.{Field, Fits, readFields}
 use Rattle.format.specs.Records.{layout, code, Fields, group, orderingAccount, sequence, unidentified, type, amount, payer, beneficiary}
-use Rattle.format.specs.Rules.{groupOf, typeOf, needsName}
+use Rattle.format.specs.Rules.{maxFixed, groupOf, typeOf, needsName}
 use Rattle.format.specs.Language.{Rec, tenDigits, Before, noneBefore, afterThat}
 use Rattle.format.specs.Answers.{unknownRecord, misplacedRecord}
 use Rattle.format.specs.Tests.{Check, Tests, fileHeaderTests, batchHeaderTests, orderingPartyTests, transactionTests, batchTrailerTests, batchMaxima}
@@ -153,7 +153,7 @@ abbrev pub beginItem : Group → Context → Fields Transaction → State
 beginItem g s x = at (opens g (needsName (typeOf (type x)))) (addItem s (amount x) (payer x) (beneficiary x))
 
 abbrev pub beginBatch : Context → Fields BatchHeaderB → State
-beginBatch s x = at (opened (groupOf (group x)) 4) (newBatch (orderingAccount x) (afterThat (s .before) (sequence x)))
+beginBatch s x = at (opened (groupOf (group x)) maxFixed) (newBatch (orderingAccount x) (afterThat (s .before) (sequence x)))
 
 abbrev pub advance : {p : Phase} {k : Kind} → Place p k → Context → Fields k → State
 advance (file-header {o}) s x = at (headed o) s

@@ -12,7 +12,7 @@ use Rattle.machine.specs.Lists.{pick, same, inRange}
 use Rattle.machine.proofs.Base.{and-l, and-r, same→eq}
 use Rattle.format.specs.Fields.{filled, Fit, Fits}
 use Rattle.format.specs.Records.{layout, Fields, creationDate, fileName, sender, identification, duplicateCode, group, orderingAccount, sequence, currency, batchIdentification, unidentified, nameCode, desiredDate, partyName, testCode, type, amount, payer, beneficiary, totalAmount, totalAccounts, items}
-use Rattle.format.specs.Rules.{maxAmount, maxTotal, maxItems, maxAccount, maxSequence, mostDescriptions, CLIEOP03, EUR, groupText, isGroup, groupOf, typeOf, needsName}
+use Rattle.format.specs.Rules.{maxAmount, maxTotal, maxItems, maxAccount, maxSequence, maxFixed, mostDescriptions, CLIEOP03, EUR, groupText, isGroup, groupOf, typeOf, needsName}
 use Rattle.format.specs.Language.{Name, Item, Batch, File, totalOf, accountsOf, tenDigits, Rec, fileHeaderRec, batchHeaderRec, fixedRecs, transactionRec, referenceRecs, descriptionRecs, cityRecs, nameRecs, itemRecs, itemsRecs, batchTrailerRec, batchesRecs, fileTrailerRecs, fileRecs, In, TransactionOk, ReferenceOk, DescriptionsOk, CityOk, NameOk, isSome, ItemOk, ItemsOk, Before, afterThat, Follows, IdentificationOk, BatchHeaderOk, OrderingPartyOk, BatchesOk, FileHeaderOk, Valid}
 use Rattle.format.specs.Tests.{isNext, groupTests, batchHeaderTests, transactionTests, batchTrailerTests}
 use Rattle.format.specs.declared.Kind.{Kind}
@@ -289,7 +289,7 @@ agreed : (o : Option Group) (t : List ℕ) → Hold (groupTests o t) → Agree o
 agreed none t h = tt
 agreed (some g) t h = sym (ap groupOf (same→eq t (groupText g) (h .0)) ∙ group-back g)
 
-batch-front : (g : Group) (p : Before) (account number : ℕ) (id : Option (List ℕ)) (rs : List Rec) → BatchHeaderOk p account number id → BatchLeft g 4 (newBatch account (afterThat p number)) rs
+batch-front : (g : Group) (p : Before) (account number : ℕ) (id : Option (List ℕ)) (rs : List Rec) → BatchHeaderOk p account number id → BatchLeft g maxFixed (newBatch account (afterThat p number)) rs
     → BatchesLeft g 1 p (batchHeaderRec g account number id ∷ rs)
 batch-front g p account number id rs o r =
     let m = r .more in

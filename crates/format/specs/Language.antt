@@ -8,7 +8,7 @@ use lib.ListN.{length}
 use lib.Dec.{T}
 use Rattle.format.specs.Fields.{filled, optional, free, writeFields, Fit}
 use Rattle.format.specs.Records.{layout, code, Fields}
-use Rattle.format.specs.Rules.{maxAmount, maxTotal, maxItems, maxAccount, maxSequence, mostDescriptions, CLIEOP03, EUR, isTestCode, isDate, isDesiredDate, isIdentification, isOfDay, isOrderingAccount, isAccount, isOwnPayer, isOwnBeneficiary, groupText, isNameCodeIn, typeOf, isTypeIn, needsName}
+use Rattle.format.specs.Rules.{maxAmount, maxTotal, maxItems, maxAccount, maxSequence, maxFixed, mostDescriptions, CLIEOP03, EUR, isTestCode, isDate, isDesiredDate, isIdentification, isOfDay, isOrderingAccount, isAccount, isOwnPayer, isOwnBeneficiary, groupText, isNameCodeIn, typeOf, isTypeIn, needsName}
 use Rattle.format.specs.declared.Kind.{Kind}
 use Rattle.format.specs.declared.Kind.the-variants.{FileHeader, BatchHeaderB, BatchHeaderC, FixedDescription, OrderingParty, Transaction, NamePayer, CityPayer, PaymentReference, Description, NameBeneficiary, CityBeneficiary, BatchTrailer, FileTrailer}
 use Rattle.format.specs.declared.Group.{Group}
@@ -218,7 +218,7 @@ pub record OrderingPartyOk (g : Group) (nameCode desired : ℕ) (name testCode :
 pub record BatchOk (g : Group) (p : Before) (b : Batch) : Type 0 where
   pub header-ok : BatchHeaderOk p (b .account) (b .sequence) (b .identification)
   pub fixed-ok : DescriptionsOk (b .fixed)
-  pub fixed-max : length (b .fixed) ≤ 4
+  pub fixed-max : length (b .fixed) ≤ maxFixed
   pub party-ok : OrderingPartyOk g (b .nameCode) (b .desired) (b .party) (b .testCode)
   pub items-ok : ItemsOk g (b .account) (b .items)
   pub items-in : In 1 maxItems (length (b .items))

@@ -31,10 +31,18 @@ maxAccount = 9999999999
 abbrev pub maxSequence : ℕ
 maxSequence = 9999
 
+-- the fixed descriptions of a batch
+abbrev pub maxFixed : ℕ
+maxFixed = 4
+
+-- the descriptions of an item without a reference
+abbrev pub maxDescriptions : ℕ
+maxDescriptions = 4
+
 -- by whether there is a reference: 'at most four 0160s, or three if it has a 0150'
 abbrev pub mostDescriptions : Bool → ℕ
 mostDescriptions true = 3
-mostDescriptions false = 4
+mostDescriptions false = maxDescriptions
 
 -- ## Fixed texts
 

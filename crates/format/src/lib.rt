@@ -2,6 +2,8 @@
 ghost use mathlib.Core.Path.{_≡_};
 ghost use Rattle.format.specs.Rules.{mostDescriptions};
 
+pub mod codes;
+
 // A record's code and variant (01, 'Record table').
 pub enum Kind {
     FileHeader,
@@ -82,6 +84,9 @@ pub const BEYOND_LIMITS: u8 = 24;
 // Ten digits.
 pub const MAX_ACCOUNT: u64 = 9999999999;
 
+// The descriptions of an item without a reference.
+pub const MAX_DESCRIPTIONS: u64 = 4;
+
 // How many descriptions an item may have, by whether it has a reference.
 pub fn most_descriptions(reference: bool) -> u64
     ensures { λ r. ⌜ r ≡ mostDescriptions reference ⌝ }
@@ -89,5 +94,5 @@ pub fn most_descriptions(reference: bool) -> u64
     if reference {
         return 3;
     }
-    4
+    MAX_DESCRIPTIONS
 }

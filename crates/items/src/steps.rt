@@ -11,6 +11,7 @@ use crate::Found;
 use crate::Search;
 use field::bytes::is_same;
 use field::bytes::part;
+use format::codes;
 use record::read::transaction_at;
 
 fn less_one(n: u64) -> u64
@@ -31,13 +32,13 @@ fn begins(line: &[u8], code: &[u8]) -> bool
 fn is_name(line: &[u8]) -> bool
     ensures { λ r. ⌜ r ≡ isName (now (line .entry)) ⌝ }
 {
-    begins(line, b"0170B") | begins(line, b"0110B")
+    begins(line, &codes::NAME_BENEFICIARY) | begins(line, &codes::NAME_PAYER)
 }
 
 fn is_header(line: &[u8]) -> bool
     ensures { λ r. ⌜ r ≡ isHeader (now (line .entry)) ⌝ }
 {
-    begins(line, b"0010B") | begins(line, b"0010C")
+    begins(line, &codes::BATCH_HEADER_B) | begins(line, &codes::BATCH_HEADER_C)
 }
 
 impl Search {
@@ -132,19 +133,19 @@ impl Search {
     fn line(self, line: &[u8]) -> Search
         ensures { λ r. ⌜ r ≡ afterLine self (now (line .entry)) ⌝ }
     {
-        if begins(line, b"0100A") {
+        if begins(line, &codes::TRANSACTION) {
             return self.opened(line);
         }
-        if begins(line, b"0150A") {
+        if begins(line, &codes::PAYMENT_REFERENCE) {
             return self.referred(line);
         }
-        if begins(line, b"0160A") {
+        if begins(line, &codes::DESCRIPTION) {
             return self.described(line);
         }
         if is_name(line) {
             return self.named(line);
         }
-        if begins(line, b"0020A") {
+        if begins(line, &codes::FIXED_DESCRIPTION) {
             return self.fixed(line);
         }
         if is_header(line) {

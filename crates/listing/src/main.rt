@@ -1,6 +1,7 @@
 // Prints the listing of each file that its arguments name, or of standard input: its header, each closed batch, and the answer.
 use field::bytes::part;
 use format::Group;
+use format::codes;
 use libc::STDOUT_FILENO;
 use page::put_answer;
 use page::put_input;
@@ -31,7 +32,7 @@ fn put_header(
     duplicate: u64,
     sender: &[u8],
 ) -> usize {
-    let a = put_line(page, at, b"file=", b"CLIEOP03");
+    let a = put_line(page, at, b"file=", &codes::FILE_NAME);
     let b = put_number(page, a, b"created=", created, 6);
     let c = put_line(page, b, b"sender=", sender);
     let d = put_number(page, c, b"identification=", identification, 4);

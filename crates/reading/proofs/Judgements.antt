@@ -10,7 +10,7 @@ use lib.Dec.{T, eqb}
 use Rattle.machine.specs.Lists.{pick}
 use Rattle.machine.proofs.Base.{and-second}
 use Rattle.format.specs.Records.{amount}
-use Rattle.format.specs.Rules.{mostDescriptions}
+use Rattle.format.specs.Rules.{maxFixed, maxDescriptions, mostDescriptions}
 use Rattle.format.specs.declared.Kind.{Kind}
 use Rattle.format.specs.declared.Kind.the-variants.{FileHeader, BatchHeaderB, BatchHeaderC, FixedDescription, OrderingParty, Transaction, NamePayer, CityPayer, PaymentReference, Description, NameBeneficiary, CityBeneficiary, BatchTrailer, FileTrailer}
 use Rattle.format.specs.declared.Group.{Group}
@@ -136,15 +136,15 @@ pub ruleset firsts = (first-beyond, first-done, first-line, first-broken)
 
 -- ## What is kept from line to line
 
-fix-room : (s : State) → allowed s FixedDescription ≡ true → s .batch .fixed < 4
+fix-room : (s : State) → allowed s FixedDescription ≡ true → s .batch .fixed < maxFixed
 unfolding allowed mayFix
-fix-room s a = ltb-true (s .batch .fixed) 4 (and-second (isStage (s .stage) Opened) _ a)
+fix-room s a = ltb-true (s .batch .fixed) maxFixed (and-second (isStage (s .stage) Opened) _ a)
 
-pub four-at-most : (reference : Bool) → mostDescriptions reference ≤ 4
+pub four-at-most : (reference : Bool) → mostDescriptions reference ≤ maxDescriptions
 four-at-most true = omega arith
 four-at-most false = omega arith
 
-text-room : (s : State) → allowed s Description ≡ true → s .item .descriptions < 4
+text-room : (s : State) → allowed s Description ≡ true → s .item .descriptions < maxDescriptions
 unfolding allowed mayDescribe
 text-room s a =
     let r = s .item .reference in

@@ -8,7 +8,7 @@ use lib.Dec.{leb}
 use mir.Val.{Fits}
 use mir.Syntax.{w64}
 use Rattle.machine.proofs.Base.{and-first, and-second}
-use Rattle.format.specs.Rules.{maxItems, maxTotal, maxAccount, maxSequence}
+use Rattle.format.specs.Rules.{maxItems, maxTotal, maxAccount, maxSequence, maxFixed, maxDescriptions}
 use Rattle.reading.specs.State.{maxLine, isKept, within, Kept}
 use Rattle.reading.specs.declared.State.{State}
 
@@ -25,8 +25,8 @@ kept-facts s e t =
       total = leb-true _ maxTotal (and-first _ _ a1);
       accounts = leb-true _ maxAccount (and-first _ _ a2);
       sequence = leb-true _ maxSequence (and-first _ _ a3);
-      fixed = leb-true _ 4 (and-first _ _ a4);
-      descriptions = leb-true _ 4 (and-second (leb (s .batch .fixed) 4) _ a4);
+      fixed = leb-true _ maxFixed (and-first _ _ a4);
+      descriptions = leb-true _ maxDescriptions (and-second (leb (s .batch .fixed) maxFixed) _ a4);
     }
 
 kept-test : (s : State) → Kept s → isKept s ≡ true
@@ -37,8 +37,8 @@ kept-test s k =
       le-leb (s .batch .total) maxTotal (k .total),
       le-leb (s .batch .accounts) maxAccount (k .accounts),
       le-leb (s .batch .sequence) maxSequence (k .sequence),
-      le-leb (s .batch .fixed) 4 (k .fixed),
-      le-leb (s .item .descriptions) 4 (k .descriptions),
+      le-leb (s .batch .fixed) maxFixed (k .fixed),
+      le-leb (s .item .descriptions) maxDescriptions (k .descriptions),
     )
 
 -- with the batch and the item kept, the line number decides

@@ -2,7 +2,7 @@
 use Prim.Native.Nat.{ℕ}
 use mathlib.Core.Bool.{Bool, true, false, not, _&&_, _||_}
 use lib.Dec.{ltb, eqb}
-use Rattle.format.specs.Rules.{mostDescriptions, sameGroup}
+use Rattle.format.specs.Rules.{maxFixed, mostDescriptions, sameGroup}
 use Rattle.format.specs.declared.Kind.{Kind}
 use Rattle.format.specs.declared.Kind.the-variants.{FileHeader, BatchHeaderB, BatchHeaderC, FixedDescription, OrderingParty, Transaction, NamePayer, CityPayer, PaymentReference, Description, NameBeneficiary, CityBeneficiary, BatchTrailer, FileTrailer}
 use Rattle.format.specs.declared.Group.{Group}
@@ -40,7 +40,7 @@ mayOpen p = isStage p Headed || isStage p Closed
 
 -- '0 to 4 fixed descriptions'
 unfoldable pub mayFix : Stage → ℕ → Bool
-mayFix p fixed = isStage p Opened && ltb fixed 4
+mayFix p fixed = isStage p Opened && ltb fixed maxFixed
 
 -- an item that lacks no name may end
 unfoldable pub mayEnd : Stage → Name → Bool

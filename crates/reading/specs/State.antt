@@ -2,7 +2,7 @@
 use Prim.Native.Nat.{ℕ, _≤_}
 use mathlib.Core.Bool.{Bool, false, _&&_}
 use lib.Dec.{leb}
-use Rattle.format.specs.Rules.{maxItems, maxTotal, maxAccount, maxSequence}
+use Rattle.format.specs.Rules.{maxItems, maxTotal, maxAccount, maxSequence, maxFixed, maxDescriptions}
 use Rattle.format.specs.declared.Group.the-variants.{Payments}
 use Rattle.record.specs.Faults.{emptyBatch}
 use Rattle.reading.specs.declared.Stage.the-variants.{Start}
@@ -27,8 +27,8 @@ isKept s =
     && (leb (s .batch .total) maxTotal
     && (leb (s .batch .accounts) maxAccount
     && (leb (s .batch .sequence) maxSequence
-    && (leb (s .batch .fixed) 4
-    && leb (s .item .descriptions) 4))))
+    && (leb (s .batch .fixed) maxFixed
+    && leb (s .item .descriptions) maxDescriptions))))
 
 -- answer 24 is for a state beyond these
 unfoldable pub within : State → Bool
@@ -40,5 +40,5 @@ pub record Kept (s : State) : Type 0 where
   pub total : s .batch .total ≤ maxTotal
   pub accounts : s .batch .accounts ≤ maxAccount
   pub sequence : s .batch .sequence ≤ maxSequence
-  pub fixed : s .batch .fixed ≤ 4
-  pub descriptions : s .item .descriptions ≤ 4
+  pub fixed : s .batch .fixed ≤ maxFixed
+  pub descriptions : s .item .descriptions ≤ maxDescriptions

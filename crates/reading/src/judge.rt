@@ -189,7 +189,9 @@ fn is_kept(s: State) -> bool
     (b.items <= Batch::MAX_ITEMS)
         & ((b.total <= Batch::MAX_TOTAL)
             & ((b.accounts <= format::MAX_ACCOUNT)
-                & ((b.sequence <= Batch::MAX_SEQUENCE) & ((b.fixed <= 4) & (i.descriptions <= 4)))))
+                & ((b.sequence <= Batch::MAX_SEQUENCE)
+                    & ((b.fixed <= Batch::MAX_FIXED)
+                        & (i.descriptions <= format::MAX_DESCRIPTIONS)))))
 }
 
 fn run(start: State, bytes: &[u8]) -> Judged

@@ -6,6 +6,7 @@ use crate::Stage;
 use crate::State;
 use format::Group;
 use format::Kind;
+use record::Batch;
 use record::types::is_same_group;
 
 fn stage_number(p: Stage) -> u64
@@ -54,7 +55,7 @@ fn may_open(p: Stage) -> bool
 fn may_fix(p: Stage, fixed: u64) -> bool
     ensures { λ r. ⌜ r ≡ mayFix p fixed ⌝ }
 {
-    is_stage(p, Stage::Opened) & (fixed < 4)
+    is_stage(p, Stage::Opened) & (fixed < Batch::MAX_FIXED)
 }
 
 fn may_end(p: Stage, n: Name) -> bool

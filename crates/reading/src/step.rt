@@ -1,6 +1,7 @@
 // The state after a record.
 ghost use mathlib.Core.Path.{_≡_};
 ghost use Prim.Native.Nat.{_≤_};
+ghost use Rattle.format.specs.Rules.{maxFixed};
 ghost use Rattle.record.specs.Read.{valuesOf};
 ghost use Rattle.format.specs.declared.Kind.the-variants.{BatchHeaderB};
 ghost use Rattle.reading.specs.State.{Kept, maxLine};
@@ -34,7 +35,7 @@ fn opened_batch(line: &[u8]) -> Batch
 }
 
 fn fixed_one(b: Batch) -> Batch
-    requires { ⌜ b .fixed ≤ 4 ⌝ }
+    requires { ⌜ b .fixed ≤ maxFixed ⌝ }
     ensures { λ r. ⌜ r ≡ fixedOne b ⌝ }
 {
     Batch {

@@ -46,6 +46,7 @@ use format::Group;
 use format::Kind;
 use format::TransactionType;
 use format::TypeRead;
+use format::codes;
 
 fn fault(number: u8, column: u8) -> Fault
     ensures { λ r. ⌜ r ≡ faultAt column number ⌝ }
@@ -71,7 +72,7 @@ fn identification_answer(line: &[u8], created: u64) -> u8
         return f;
     }
     if is_digits(part(line, 24, 4)) {
-        if is_same(part(line, 26, 2), b"00") {
+        if is_same(part(line, 26, 2), &codes::NO_COUNTER) {
             return format::WRONG_VALUE;
         }
         let day = digits_at(line, 24, 2);
@@ -92,7 +93,7 @@ fn file_header(line: &[u8]) -> Fault
     if created.number != 0 {
         return fault(created.number, 6);
     }
-    let name = exactly_answer(line, 11, 8, b"CLIEOP03");
+    let name = exactly_answer(line, 11, 8, &codes::FILE_NAME);
     if name != 0 {
         return fault(name, 12);
     }
@@ -155,7 +156,7 @@ fn batch_header(line: &[u8], identified: bool, said: bool, group: Group, before:
     if sequence != 0 {
         return fault(sequence, 18);
     }
-    let currency = exactly_answer(line, 21, 3, b"EUR");
+    let currency = exactly_answer(line, 21, 3, &codes::CURRENCY);
     if currency != 0 {
         return fault(currency, 22);
     }
@@ -187,10 +188,10 @@ fn test_code_answer(line: &[u8]) -> u8
         return f;
     }
     let code = part(line, 47, 1);
-    if is_same(code, b"P") {
+    if is_same(code, &codes::PRODUCTION) {
         return 0;
     }
-    if is_same(code, b"T") {
+    if is_same(code, &codes::TEST) {
         0
     } else {
         format::WRONG_VALUE

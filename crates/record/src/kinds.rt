@@ -6,15 +6,16 @@ use field::bytes::is_same;
 use field::bytes::part;
 use format::Code;
 use format::Kind;
+use format::codes;
 
 // The records of a file's frame.
 fn file_kind(s: &[u8]) -> Code
     ensures { λ r. ⌜ r ≡ fileCode (now (s .entry)) ⌝ }
 {
-    if is_same(s, b"0001A") {
+    if is_same(s, &codes::FILE_HEADER) {
         return Code::Of(Kind::FileHeader);
     }
-    if is_same(s, b"9999A") {
+    if is_same(s, &codes::FILE_TRAILER) {
         return Code::Of(Kind::FileTrailer);
     }
     Code::Unknown
@@ -24,19 +25,19 @@ fn file_kind(s: &[u8]) -> Code
 fn batch_kind(s: &[u8]) -> Code
     ensures { λ r. ⌜ r ≡ batchCode (now (s .entry)) ⌝ }
 {
-    if is_same(s, b"0010B") {
+    if is_same(s, &codes::BATCH_HEADER_B) {
         return Code::Of(Kind::BatchHeaderB);
     }
-    if is_same(s, b"0010C") {
+    if is_same(s, &codes::BATCH_HEADER_C) {
         return Code::Of(Kind::BatchHeaderC);
     }
-    if is_same(s, b"0020A") {
+    if is_same(s, &codes::FIXED_DESCRIPTION) {
         return Code::Of(Kind::FixedDescription);
     }
-    if is_same(s, b"0030B") {
+    if is_same(s, &codes::ORDERING_PARTY) {
         return Code::Of(Kind::OrderingParty);
     }
-    if is_same(s, b"9990A") {
+    if is_same(s, &codes::BATCH_TRAILER) {
         return Code::Of(Kind::BatchTrailer);
     }
     file_kind(s)
@@ -46,10 +47,10 @@ fn batch_kind(s: &[u8]) -> Code
 fn debit_kind(s: &[u8]) -> Code
     ensures { λ r. ⌜ r ≡ debitCode (now (s .entry)) ⌝ }
 {
-    if is_same(s, b"0110B") {
+    if is_same(s, &codes::NAME_PAYER) {
         return Code::Of(Kind::NamePayer);
     }
-    if is_same(s, b"0113B") {
+    if is_same(s, &codes::CITY_PAYER) {
         return Code::Of(Kind::CityPayer);
     }
     batch_kind(s)
@@ -59,19 +60,19 @@ fn debit_kind(s: &[u8]) -> Code
 fn kind_in(s: &[u8]) -> Code
     ensures { λ r. ⌜ r ≡ codeOf (now (s .entry)) ⌝ }
 {
-    if is_same(s, b"0100A") {
+    if is_same(s, &codes::TRANSACTION) {
         return Code::Of(Kind::Transaction);
     }
-    if is_same(s, b"0150A") {
+    if is_same(s, &codes::PAYMENT_REFERENCE) {
         return Code::Of(Kind::PaymentReference);
     }
-    if is_same(s, b"0160A") {
+    if is_same(s, &codes::DESCRIPTION) {
         return Code::Of(Kind::Description);
     }
-    if is_same(s, b"0170B") {
+    if is_same(s, &codes::NAME_BENEFICIARY) {
         return Code::Of(Kind::NameBeneficiary);
     }
-    if is_same(s, b"0173B") {
+    if is_same(s, &codes::CITY_BENEFICIARY) {
         return Code::Of(Kind::CityBeneficiary);
     }
     debit_kind(s)

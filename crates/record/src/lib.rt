@@ -32,6 +32,8 @@ impl Batch {
 
     pub const MAX_SEQUENCE: u64 = 9999;
 
+    pub const MAX_FIXED: u64 = 4;
+
     pub fn empty() -> Batch
         ensures { λ r. ⌜ r ≡ emptyBatch ⌝ }
     {

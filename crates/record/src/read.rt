@@ -15,6 +15,7 @@ use field::bytes::part;
 use field::bytes::put;
 use field::numbers::digits_at;
 use format::Kind;
+use format::codes;
 
 pub fn value_at(line: &[u8], at: usize, width: usize) -> u64
     ensures { λ r. ⌜ r ≡ digitsOf (take width (drop at (now (line .entry)))) .value ⌝ }
@@ -62,7 +63,7 @@ fn ordering_party_at(line: &[u8]) -> Record
     Record::OrderingParty {
         code: value_at(line, 5, 1),
         desired: value_at(line, 6, 6),
-        test: is_same(part(line, 47, 1), b"T"),
+        test: is_same(part(line, 47, 1), &codes::TEST),
     }
 }
 

@@ -15,11 +15,12 @@ use field::texts::filled_answer;
 use format::Group;
 use format::TransactionType;
 use format::TypeRead;
+use format::codes;
 
 pub fn group_in(line: &[u8]) -> Group
     ensures { λ r. ⌜ r ≡ groupOf (take 2 (drop 5 (now (line .entry)))) ⌝ }
 {
-    if is_same(part(line, 5, 2), b"00") {
+    if is_same(part(line, 5, 2), &codes::GROUP_PAYMENTS) {
         Group::Payments
     } else {
         Group::Debits
@@ -44,18 +45,18 @@ pub fn is_same_group(a: Group, b: Group) -> bool
 fn is_group(s: &[u8]) -> bool
     ensures { λ r. ⌜ r ≡ isGroup (now (s .entry)) ⌝ }
 {
-    if is_same(s, b"00") {
+    if is_same(s, &codes::GROUP_PAYMENTS) {
         return true;
     }
-    is_same(s, b"10")
+    is_same(s, &codes::GROUP_DEBITS)
 }
 
 pub fn group_text(group: Group) -> [u8; 2]
     ensures { λ r. ⌜ r ≡ groupText group ⌝ }
 {
     match group {
-        Group::Payments => *b"00",
-        Group::Debits => *b"10",
+        Group::Payments => codes::GROUP_PAYMENTS,
+        Group::Debits => codes::GROUP_DEBITS,
     }
 }
 
@@ -87,34 +88,34 @@ pub fn type_text(kind: TransactionType) -> [u8; 4]
     ensures { λ r. ⌜ r ≡ typeText kind ⌝ }
 {
     match kind {
-        TransactionType::UncheckedCreditor => *b"0000",
-        TransactionType::UncheckedSalary => *b"0003",
-        TransactionType::Creditor => *b"0005",
-        TransactionType::Salary => *b"0008",
-        TransactionType::Debit => *b"1001",
-        TransactionType::UncheckedDebit => *b"1002",
+        TransactionType::UncheckedCreditor => codes::TYPE_UNCHECKED_CREDITOR,
+        TransactionType::UncheckedSalary => codes::TYPE_UNCHECKED_SALARY,
+        TransactionType::Creditor => codes::TYPE_CREDITOR,
+        TransactionType::Salary => codes::TYPE_SALARY,
+        TransactionType::Debit => codes::TYPE_DEBIT,
+        TransactionType::UncheckedDebit => codes::TYPE_UNCHECKED_DEBIT,
     }
 }
 
 fn type_of(s: &[u8]) -> TypeRead
     ensures { λ r. ⌜ r ≡ typeOf (now (s .entry)) ⌝ }
 {
-    if is_same(s, b"0000") {
+    if is_same(s, &codes::TYPE_UNCHECKED_CREDITOR) {
         return TypeRead::Of(TransactionType::UncheckedCreditor);
     }
-    if is_same(s, b"0003") {
+    if is_same(s, &codes::TYPE_UNCHECKED_SALARY) {
         return TypeRead::Of(TransactionType::UncheckedSalary);
     }
-    if is_same(s, b"0005") {
+    if is_same(s, &codes::TYPE_CREDITOR) {
         return TypeRead::Of(TransactionType::Creditor);
     }
-    if is_same(s, b"0008") {
+    if is_same(s, &codes::TYPE_SALARY) {
         return TypeRead::Of(TransactionType::Salary);
     }
-    if is_same(s, b"1001") {
+    if is_same(s, &codes::TYPE_DEBIT) {
         return TypeRead::Of(TransactionType::Debit);
     }
-    if is_same(s, b"1002") {
+    if is_same(s, &codes::TYPE_UNCHECKED_DEBIT) {
         return TypeRead::Of(TransactionType::UncheckedDebit);
     }
     TypeRead::NoType

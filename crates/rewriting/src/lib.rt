@@ -11,6 +11,7 @@ ghost use Rattle.rewriting.specs.Rewriting.{rewrittenOf, roomAfter};
 use field::bytes::is_same;
 use field::bytes::part;
 use field::bytes::put;
+use format::codes;
 
 // What a file to write again is answered, and how many bytes were written.
 pub struct Rewritten {
@@ -25,7 +26,7 @@ fn is_city(line: &[u8]) -> bool
     ensures { λ r. ⌜ r ≡ isCity (now (line .entry)) ⌝ }
 {
     let code = part(line, 0, 5);
-    is_same(code, b"0113B") | is_same(code, b"0173B")
+    is_same(code, &codes::CITY_PAYER) | is_same(code, &codes::CITY_BENEFICIARY)
 }
 
 // A line, or nothing of a city's.

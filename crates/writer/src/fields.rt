@@ -12,6 +12,7 @@ use field::bytes::put;
 use field::numbers::spelt;
 use format::Group;
 use format::TransactionType;
+use format::codes;
 use record::types::group_text;
 use record::types::type_text;
 
@@ -94,7 +95,7 @@ pub(crate) fn put_test(line: [u8; 52], test: bool) -> [u8; 52]
     ensures { λ r. ⌜ r ≡ putIn line 47 (testText test) ⌝ }
 {
     if test {
-        return put_bytes(line, 47, b"T");
+        return put_bytes(line, 47, &codes::TEST);
     }
-    put_bytes(line, 47, b"P")
+    put_bytes(line, 47, &codes::PRODUCTION)
 }

@@ -20,6 +20,7 @@ use crate::fields::put_test;
 use crate::fields::put_text;
 use crate::fields::put_type;
 use format::Group;
+use format::codes;
 use reading::State;
 use record::Transaction;
 
@@ -37,8 +38,8 @@ fn coded(code: &[u8]) -> [u8; 52]
 fn file_header(created: u64, identification: u64, duplicate: u64, text: [u8; 35]) -> [u8; 52]
     ensures { λ r. ⌜ r ≡ encodedLine (code FileHeader) (layout FileHeader) (fileHeaderGiven created identification duplicate text) ⌝ }
 {
-    let a = put_number(coded(b"0001A"), 5, 6, created);
-    let b = put_bytes(a, 11, b"CLIEOP03");
+    let a = put_number(coded(&codes::FILE_HEADER), 5, 6, created);
+    let b = put_bytes(a, 11, &codes::FILE_NAME);
     let c = put_text(b, 19, 5, &text);
     let d = put_number(c, 24, 4, identification);
     put_number(d, 28, 1, duplicate)
@@ -51,7 +52,7 @@ fn put_header(line: [u8; 52], group: Group, account: u64, sequence: u64) -> [u8;
     let a = put_group(line, group);
     let b = put_number(a, 7, 10, account);
     let c = put_number(b, 17, 4, sequence);
-    put_bytes(c, 21, b"EUR")
+    put_bytes(c, 21, &codes::CURRENCY)
 }
 
 fn batch_header(
@@ -64,17 +65,17 @@ fn batch_header(
     ensures { λ r. ⌜ r ≡ batchHeaderLine identified group account sequence text ⌝ }
 {
     if identified {
-        let c = put_header(coded(b"0010C"), group, account, sequence);
+        let c = put_header(coded(&codes::BATCH_HEADER_C), group, account, sequence);
         return put_text(c, 24, 16, &text);
     }
-    let b = put_header(coded(b"0010B"), group, account, sequence);
+    let b = put_header(coded(&codes::BATCH_HEADER_B), group, account, sequence);
     put_blank(b, 24, 16, &text)
 }
 
 fn ordering_party(name_code: u64, desired: u64, test: bool, text: [u8; 35]) -> [u8; 52]
     ensures { λ r. ⌜ r ≡ encodedLine (code OrderingParty) (layout OrderingParty) (orderingPartyGiven «name_code» desired test text) ⌝ }
 {
-    let a = put_number(coded(b"0030B"), 5, 1, name_code);
+    let a = put_number(coded(&codes::ORDERING_PARTY), 5, 1, name_code);
     let b = put_number(a, 6, 6, desired);
     let c = put_text(b, 12, 35, &text);
     put_test(c, test)
@@ -84,7 +85,7 @@ fn item(t: Transaction, text: [u8; 35]) -> [u8; 52]
     ensures { λ r. ⌜ r ≡ encodedLine (code kinds.Transaction) (layout kinds.Transaction) (itemGiven t text) ⌝ }
 {
     let kind = t.kind;
-    let a = put_type(coded(b"0100A"), kind);
+    let a = put_type(coded(&codes::TRANSACTION), kind);
     let b = put_number(a, 9, 12, t.amount);
     let c = put_number(b, 21, 10, t.payer);
     let d = put_number(c, 31, 10, t.beneficiary);
@@ -103,7 +104,7 @@ fn text_line(code: &[u8], width: usize, text: [u8; 35]) -> [u8; 52]
 fn batch_trailer(total: u64, accounts: u64, items: u64, text: [u8; 35]) -> [u8; 52]
     ensures { λ r. ⌜ r ≡ encodedLine (code BatchTrailer) (layout BatchTrailer) (batchTrailerGiven total accounts items text) ⌝ }
 {
-    let a = put_number(coded(b"9990A"), 5, 18, total);
+    let a = put_number(coded(&codes::BATCH_TRAILER), 5, 18, total);
     let b = put_number(a, 23, 10, accounts);
     let c = put_number(b, 33, 7, items);
     put_blank(c, 40, 10, &text)
@@ -112,7 +113,7 @@ fn batch_trailer(total: u64, accounts: u64, items: u64, text: [u8; 35]) -> [u8; 
 fn file_trailer(text: [u8; 35]) -> [u8; 52]
     ensures { λ r. ⌜ r ≡ encodedLine (code FileTrailer) (layout FileTrailer) (text, tt) ⌝ }
 {
-    put_blank(coded(b"9999A"), 5, 45, &text)
+    put_blank(coded(&codes::FILE_TRAILER), 5, 45, &text)
 }
 
 // The line of a record to write, with the trailer's numbers from the state.
@@ -131,17 +132,17 @@ pub(crate) fn entry_line(state: State, entry: Entry, text: [u8; 35]) -> [u8; 52]
             sequence,
             identified,
         } => batch_header(group, account, sequence, identified, text),
-        Entry::FixedDescription => text_line(b"0020A", 32, text),
+        Entry::FixedDescription => text_line(&codes::FIXED_DESCRIPTION, 32, text),
         Entry::OrderingParty {
             code,
             desired,
             test,
         } => ordering_party(code, desired, test, text),
         Entry::Item(t) => item(t, text),
-        Entry::NamePayer => text_line(b"0110B", 35, text),
-        Entry::PaymentReference => text_line(b"0150A", 16, text),
-        Entry::Description => text_line(b"0160A", 32, text),
-        Entry::NameBeneficiary => text_line(b"0170B", 35, text),
+        Entry::NamePayer => text_line(&codes::NAME_PAYER, 35, text),
+        Entry::PaymentReference => text_line(&codes::PAYMENT_REFERENCE, 16, text),
+        Entry::Description => text_line(&codes::DESCRIPTION, 32, text),
+        Entry::NameBeneficiary => text_line(&codes::NAME_BENEFICIARY, 35, text),
         Entry::BatchTrailer => batch_trailer(
             state.batch.total,
             state.batch.accounts,
