@@ -18,8 +18,8 @@ use Rattle.format.specs.declared.Group.{Group}
 use Rattle.format.specs.declared.TypeRead.{TypeRead}
 use Rattle.format.specs.declared.TypeRead.the-variants.{Of, NoType}
 use Rattle.format.proofs.Complete.{complete}
-use Rattle.record.specs.Read.{typeOr, transactionFor}
-use Rattle.record.specs.declared.Transaction as items
+use Rattle.record.specs.Read.{transactionFor}
+use Rattle.record.specs.declared.TransactionFields.{TransactionFields}
 use Rattle.reading.specs.Check.{checkOf}
 use Rattle.reading.specs.declared.Answer.{Answer}
 use Rattle.reading.proofs.Judgements.{four-at-most}
@@ -63,17 +63,13 @@ all-places ts h l = add-places [] ts tt h (omega arith)
 
 -- ## The wanted item's fields
 
-type-read : (g : Group) (y : TypeRead) → T (isTypeIn g y) → Of (typeOr y) ≡ y
-type-read g (Of y) h = refl
-type-read g NoType h = absurd h
-
 first-24 : (t : List ℕ) → length t ≡ 35 → filledTo 24 t ≡ take 24 t
 first-24 t h = take-append-le 24 t (spaces 24) (omega arith)
 
-abbrev fieldsWith : items.Transaction → List ℕ → List ℕ → ItemFields
-fieldsWith t reference name = record { kind = Of (t .kind); amount = t .amount; payer = t .payer; beneficiary = t .beneficiary; reference = reference; name = name }
+abbrev fieldsWith : TransactionFields → List ℕ → List ℕ → ItemFields
+fieldsWith t reference name = record { kind = t .kind; amount = t .amount; payer = t .payer; beneficiary = t .beneficiary; reference = reference; name = name }
 
-module _ (t : items.Transaction) (fx ts : List (List ℕ)) where
+module _ (t : TransactionFields) (fx ts : List (List ℕ)) where
   abbrev ending : Option (List ℕ) → Option Name → Found
   ending o m = onName (onOwn (onReference (withItem (onFixed nothingFound fx) t) o) ts) m
 
@@ -105,12 +101,11 @@ Finds f (some x) = (isFound (f .fields .kind) ≡ true) × ((f .fields ≡ field
 
 item-finds : (g : Group) (account : ℕ) (fx : List (List ℕ)) (i : Item) → DescriptionsOk fx → length fx ≤ 4 → ItemOk g account i → Finds (onItem (onFixed nothingFound fx) i) (some (record { fixed = fx; item = i }))
 item-finds g account fx i h l k =
-    let t : items.Transaction = transactionFor (i .type, (i .amount, (i .payer, (i .beneficiary, (tt, tt))))) in
+    let t : TransactionFields = transactionFor (i .type, (i .amount, (i .payer, (i .beneficiary, (tt, tt))))) in
     let n : length (i .descriptions) ≤ 4 = omega (arith, k .room, four-at-most (isSome (i .reference))) in
     let y = k .transaction-ok .type-in in
     let e : onItem (onFixed nothingFound fx) i .fields ≡ fieldsFor i =
-    fields-found t fx (i .descriptions) (i .reference) (needsName (typeOf (i .type))) (i .name) (k .reference-ok) (k .name-ok)
-    ∙ ap (λ u. record { kind = u; amount = i .amount; payer = i .payer; beneficiary = i .beneficiary; reference = referenceFor (i .reference); name = nameFor (i .name) }) (type-read g (typeOf (i .type)) y) in
+    fields-found t fx (i .descriptions) (i .reference) (needsName (typeOf (i .type))) (i .name) (k .reference-ok) (k .name-ok) in
     let d : textsFound (onItem (onFixed nothingFound fx) i) ≡ textsFor (record { fixed = fx; item = i }) =
     texts-found t fx (i .descriptions) (i .reference) (i .name)
     ∙ ap₂ (λ u v. merged u v (mostDescriptions (isSome (i .reference))) .text) (all-places fx h l) (all-places (i .descriptions) (k .descriptions-ok) n)

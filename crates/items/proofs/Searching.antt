@@ -11,7 +11,7 @@ use Rattle.machine.specs.Lists.{pick}
 use Rattle.format.specs.Cutting.{rows}
 use Rattle.format.specs.declared.Kind.the-variants.{BatchHeaderB, BatchHeaderC, NamePayer, NameBeneficiary}
 use Rattle.format.proofs.ByRows.{rows-at, rows-none}
-use Rattle.record.specs.declared.Transaction as items
+use Rattle.record.specs.declared.TransactionFields.{TransactionFields}
 use Rattle.descriptions.specs.declared.Descriptions.{Descriptions}
 use Rattle.items.specs.Search.{filledTo, withItem, withFixed, withOwn, referenceIn, withReference, nameIn, withName, searching, finding, opened, fixed, described, referred, named, begins, isName, isHeader, afterLine, afterRows}
 use Rattle.items.specs.declared.ItemFields.{ItemFields}
@@ -39,8 +39,8 @@ pub ruleset founds = (found-made, reference-made, name-made, needs)
 pub search-made : {b c i j : ℕ} {v w h : Bool} {f g : Found} → b ≡ c → i ≡ j → v ≡ w → f ≡ g → searching b i v h f ≡ searching c j w h g
 search-made d e k l = rw (d, e, k, l)
 
-module _ (s : Search) (t : items.Transaction) where
-  pub opened-here : {n : ℕ} {g : Found} {u : items.Transaction} → s .within ≡ true → s .items ≡ 1 → n ≡ s .items - 1 → u ≡ t → g ≡ withItem (s .found) u
+module _ (s : Search) (t : TransactionFields) where
+  pub opened-here : {n : ℕ} {g : Found} {u : TransactionFields} → s .within ≡ true → s .items ≡ 1 → n ≡ s .items - 1 → u ≡ t → g ≡ withItem (s .found) u
       → searching (s .batches) n (s .within) (eqb (s .items) 1) g ≡ opened s t
   unfolding opened pick
   opened-here w n d h e = rw (w, d, n, e, h)

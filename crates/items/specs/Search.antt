@@ -8,9 +8,9 @@ use Rattle.machine.specs.Lists.{pick, same, spaces}
 use Rattle.format.specs.Records.{code}
 use Rattle.format.specs.declared.Kind.{Kind}
 use Rattle.format.specs.declared.Kind.the-variants.{BatchHeaderB, BatchHeaderC, FixedDescription, Transaction, NamePayer, PaymentReference, Description, NameBeneficiary}
-use Rattle.format.specs.declared.TypeRead.the-variants.{Of, NoType}
+use Rattle.format.specs.declared.TypeRead.the-variants.{NoType}
 use Rattle.record.specs.Read.{transactionFor, valuesOf}
-use Rattle.record.specs.declared.Transaction as items
+use Rattle.record.specs.declared.TransactionFields.{TransactionFields}
 use Rattle.descriptions.specs.Texts.{noTexts, withText}
 use Rattle.items.specs.declared.ItemFields.{ItemFields}
 use Rattle.items.specs.declared.Found.{Found}
@@ -29,13 +29,13 @@ noFields = record { kind = NoType; amount = 0; payer = 0; beneficiary = 0; refer
 abbrev pub nothingFound : Found
 nothingFound = record { fixed = noTexts; own = noTexts; referred = false; fields = noFields }
 
-abbrev pub withItem : Found → items.Transaction → Found
+abbrev pub withItem : Found → TransactionFields → Found
 withItem f t =
     record {
       fixed = f .fixed;
       own = f .own;
       referred = f .referred;
-      fields = record { kind = Of (t .kind); amount = t .amount; payer = t .payer; beneficiary = t .beneficiary; reference = f .fields .reference; name = f .fields .name };
+      fields = record { kind = t .kind; amount = t .amount; payer = t .payer; beneficiary = t .beneficiary; reference = f .fields .reference; name = f .fields .name };
     }
 
 abbrev pub withFixed : Found → List ℕ → Found
@@ -70,7 +70,7 @@ abbrev pub headed : Search → Search
 headed s = searching (s .batches - 1) (s .items) (eqb (s .batches) 1) false (s .found)
 
 -- a transaction: only those of the wanted batch count
-unfoldable pub opened : Search → items.Transaction → Search
+unfoldable pub opened : Search → TransactionFields → Search
 opened s t =
     pick (s .within)
     (pick (eqb (s .items) 1) (searching (s .batches) 0 true true (withItem (s .found) t))

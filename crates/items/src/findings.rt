@@ -7,8 +7,7 @@ use crate::no_fields;
 use crate::text::first_16;
 use crate::text::first_24;
 use descriptions::Descriptions;
-use format::TypeRead;
-use record::Transaction;
+use record::TransactionFields;
 
 impl Found {
     pub(crate) fn nothing() -> Found
@@ -25,7 +24,7 @@ impl Found {
         }
     }
 
-    pub(crate) fn with_item(self, t: Transaction) -> Found
+    pub(crate) fn with_item(self, t: TransactionFields) -> Found
         ensures { λ r. ⌜ r ≡ withItem self t ⌝ }
     {
         let mut found = self;
@@ -34,7 +33,7 @@ impl Found {
         let name = before.name;
         let kind = t.kind;
         let fields = ItemFields {
-            kind: TypeRead::Of(kind),
+            kind,
             amount: t.amount,
             payer: t.payer,
             beneficiary: t.beneficiary,

@@ -4,14 +4,14 @@ use mathlib.Core.Path.{_≡_, sym, ap, _∙_}
 use mathlib.Core.List.{List}
 use mathlib.Core.Bool.{Bool, false}
 use lib.ListN.{take, drop}
-use Rattle.format.specs.Rules.{isUnchecked}
+use Rattle.format.specs.Rules.{needsName}
 use Rattle.format.specs.declared.Kind.{Kind}
 use Rattle.format.specs.declared.Kind.the-variants.{BatchHeaderB, Transaction}
 use Rattle.format.specs.declared.Group.{Group}
 use Rattle.field.specs.Leaf.{digitsOf}
 use Rattle.record.specs.Read.{transactionFor, valuesOf}
 use Rattle.record.specs.declared.Batch.{Batch}
-use Rattle.record.specs.declared.Transaction as items
+use Rattle.record.specs.declared.TransactionFields.{TransactionFields}
 use Rattle.record.proofs.Reading.{value-small}
 use Rattle.reading.specs.Bounds.{Bounded}
 use Rattle.reading.specs.Step.{onward, openedBatch, nameIf, openedItem, afterText, texted, paid, nextFor}
@@ -30,17 +30,17 @@ pub opened-made : {a q : ℕ} (line : List ℕ) → a ≡ digitsOf (take 10 (dro
     → _≡_ {A = Batch} (record { account = a; sequence = q; items = 0; total = 0; accounts = 0; fixed = 0 }) (openedBatch (valuesOf BatchHeaderB line))
 opened-made line e h = rw (e, h)
 
-pub item-made : {u : Bool} {n : Name} (t : items.Transaction) → u ≡ isUnchecked (t .kind) → n ≡ nameIf u → _≡_ {A = OpenItem} (record { name = n; reference = false; descriptions = 0 }) (openedItem t)
+pub item-made : {u : Bool} {n : Name} (t : TransactionFields) → u ≡ needsName (t .kind) → n ≡ nameIf u → _≡_ {A = OpenItem} (record { name = n; reference = false; descriptions = 0 }) (openedItem t)
 item-made t e h = rw (h, e)
 
 -- by the kind
 pub next-via : {x : State} {k m : Kind} (s : State) (line : List ℕ) → k ≡ m → x ≡ nextFor s m (valuesOf m line) → x ≡ nextFor s k (valuesOf k line)
 next-via s line e h = h ∙ ap (λ i. nextFor s i (valuesOf i line)) (sym e)
 
-pub paid-via : {x : State} {k : Kind} {t : items.Transaction} (s : State) (line : List ℕ) → k ≡ Transaction → t ≡ transactionFor (valuesOf Transaction line) → x ≡ paid s t → x ≡ nextFor s k (valuesOf k line)
+pub paid-via : {x : State} {k : Kind} {t : TransactionFields} (s : State) (line : List ℕ) → k ≡ Transaction → t ≡ transactionFor (valuesOf Transaction line) → x ≡ paid s t → x ≡ nextFor s k (valuesOf k line)
 paid-via s line e f h = next-via s line e (h ∙ ap (λ u. paid s u) f)
 
-pub bounded : {t : items.Transaction} (line : List ℕ) → t ≡ transactionFor (valuesOf Transaction line) → Bounded t
+pub bounded : {t : TransactionFields} (line : List ℕ) → t ≡ transactionFor (valuesOf Transaction line) → Bounded t
 bounded line e =
     rw e
     (record {

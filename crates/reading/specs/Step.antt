@@ -6,7 +6,7 @@ use lib.ListN.{length, getD, take}
 use lib.Dec.{leb, eqb}
 use Rattle.machine.specs.Lists.{pick}
 use Rattle.format.specs.Records.{Fields, group, orderingAccount, sequence, unidentified}
-use Rattle.format.specs.Rules.{groupOf, isUnchecked}
+use Rattle.format.specs.Rules.{groupOf, needsName}
 use Rattle.format.specs.Language.{tenDigits}
 use Rattle.format.specs.Answers.{accepted, brokenLine, unknownRecord, misplacedRecord, endsEarly, afterTrailer, beyondLimits}
 use Rattle.format.specs.declared.Kind.{Kind}
@@ -19,7 +19,7 @@ use Rattle.record.specs.Faults.{fieldsOf, faultOf}
 use Rattle.record.specs.Read.{transactionFor, recordFor, textFor, noText}
 use Rattle.record.specs.declared.Batch.{Batch}
 use Rattle.record.specs.declared.Fault.{Fault}
-use Rattle.record.specs.declared.Transaction as items
+use Rattle.record.specs.declared.TransactionFields.{TransactionFields}
 use Rattle.record.specs.declared.Record.the-variants.{Nothing}
 use Rattle.reading.specs.State.{noItem, within}
 use Rattle.reading.specs.Order.{isStage, allowed}
@@ -54,7 +54,7 @@ abbrev pub withFixed : State → State
 withFixed s = onward s (s .stage) (s .group) (s .said) (fixedOne (s .batch)) (s .item)
 
 -- a batch with one item more: 'sum of all payers and beneficiaries, rightmost ten digits'
-abbrev pub paidBatch : Batch → items.Transaction → Batch
+abbrev pub paidBatch : Batch → TransactionFields → Batch
 paidBatch b t =
     record {
       account = b .account;
@@ -69,10 +69,10 @@ abbrev pub nameIf : Bool → Name
 nameIf true = Due
 nameIf false = Unwanted
 
-abbrev pub openedItem : items.Transaction → OpenItem
-openedItem t = record { name = nameIf (isUnchecked (t .kind)); reference = false; descriptions = 0 }
+abbrev pub openedItem : TransactionFields → OpenItem
+openedItem t = record { name = nameIf (needsName (t .kind)); reference = false; descriptions = 0 }
 
-abbrev pub paid : State → items.Transaction → State
+abbrev pub paid : State → TransactionFields → State
 paid s t = onward s Item (s .group) (s .said) (paidBatch (s .batch) t) (openedItem t)
 
 abbrev pub named : State → Name → State

@@ -15,11 +15,11 @@ use crate::no_item;
 use format::Group;
 use format::Kind;
 use record::Batch;
-use record::Transaction;
+use record::TransactionFields;
 use record::read::transaction_at;
 use record::read::value_at;
 use record::types::group_in;
-use record::types::is_unchecked;
+use record::types::needs_name;
 
 fn opened_batch(line: &[u8]) -> Batch
     ensures { λ r. ⌜ r ≡ openedBatch (valuesOf BatchHeaderB (now (line .entry))) ⌝ }
@@ -48,7 +48,7 @@ fn fixed_one(b: Batch) -> Batch
     }
 }
 
-fn paid_batch(b: Batch, t: Transaction) -> Batch
+fn paid_batch(b: Batch, t: TransactionFields) -> Batch
     requires batch { ⌜ Roomy b ⌝ }
     requires transaction { ⌜ Bounded t ⌝ }
     ensures { λ r. ⌜ r ≡ paidBatch b t ⌝ }
@@ -82,11 +82,11 @@ fn name_if(due: bool) -> Name
     if due { Name::Due } else { Name::Unwanted }
 }
 
-fn opened_item(t: Transaction) -> OpenItem
+fn opened_item(t: TransactionFields) -> OpenItem
     ensures { λ r. ⌜ r ≡ openedItem t ⌝ }
 {
     let kind = t.kind;
-    let name = name_if(is_unchecked(kind));
+    let name = name_if(needs_name(kind));
     OpenItem {
         name,
         reference: false,
@@ -154,7 +154,7 @@ impl State {
         self.onward(stage, group, self.said, batch, item)
     }
 
-    pub(crate) fn paid(self, t: Transaction) -> State
+    pub(crate) fn paid(self, t: TransactionFields) -> State
         requires line { ⌜ self .line ≤ maxLine ⌝ }
         requires kept { ⌜ Kept self ⌝ }
         requires transaction { ⌜ Bounded t ⌝ }

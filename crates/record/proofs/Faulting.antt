@@ -15,15 +15,15 @@ use Rattle.machine.specs.Digits.{valueOf}
 use Rattle.machine.proofs.Base.{and-first, and-second, true≢false}
 use Rattle.format.specs.Fields.{Field, numeric, filled, filler, width, wellFormed}
 use Rattle.format.specs.Answers.{wrongValue, wrongAccount, differs, aboveMaximum}
-use Rattle.format.specs.Records.{layout, Fields, group, sequence, unidentified, amount}
-use Rattle.format.specs.Rules.{maxAmount, maxTotal, maxItems, maxAccount, maxSequence, EUR, isGroup, isOrderingAccount, isIdentification, isOfDay, isNameCodeIn, isAccount, isOwnPayer, isOwnBeneficiary, sameGroup, typeOf}
+use Rattle.format.specs.Records.{layout, Fields, group, sequence, unidentified, type, amount}
+use Rattle.format.specs.Rules.{maxAmount, maxTotal, maxItems, maxAccount, maxSequence, EUR, isGroup, isOrderingAccount, isIdentification, isOfDay, isNameCodeIn, isAccount, isOwnPayer, isOwnBeneficiary, sameGroup, typeOf, isType}
 use Rattle.format.specs.Tests.{Test, test, Tests, isNext, groupTests, typeTests, transactionTests, fileHeaderTests, orderingPartyTests, batchTrailerTests}
 use Rattle.format.specs.declared.Kind.{Kind}
 use Rattle.format.specs.declared.Kind.the-variants.{FileHeader, BatchHeaderB, BatchHeaderC, FixedDescription, OrderingParty, Transaction, NamePayer, CityPayer, PaymentReference, Description, NameBeneficiary, CityBeneficiary, BatchTrailer, FileTrailer}
 use Rattle.format.specs.declared.Group.{Group}
 use Rattle.format.specs.declared.Group.the-variants.{Payments, Debits}
 use Rattle.format.specs.declared.TypeRead.{TypeRead}
-use Rattle.format.specs.declared.TransactionType.{TransactionType}
+use Rattle.format.specs.declared.TypeRead.the-variants.{Of, NoType}
 use Rattle.field.specs.declared.numbers.Digits.{Digits}
 use Rattle.field.specs.declared.numbers.Numeric.{Numeric}
 use Rattle.field.specs.Rows.{Row, row, cut, firstAnswer, fieldAnswer, rowsAt, checkRows, firstOr}
@@ -31,10 +31,10 @@ use Rattle.field.specs.Leaf.{digitsOf, numericAnswer, numericOf, rangeTests, da
 use Rattle.field.proofs.Rows.{row-next, row-none, rows-passed, no-row, of-value, ranged-row, party-row}
 use Rattle.record.specs.declared.Fault.{Fault}
 use Rattle.record.specs.declared.Batch.{Batch}
-use Rattle.record.specs.declared.Transaction as declared
+use Rattle.record.specs.declared.TransactionFields.{TransactionFields}
 use Rattle.record.specs.declared.TransactionRead.{TransactionRead}
 use Rattle.record.specs.Faults.{faultAt, noFault, firstFault, fieldsOf, fieldsFault, groupSaid, testsFor, maximaFor, faultOf, headerFault, textFault, maximaFault}
-use Rattle.record.specs.Read.{transactionFor, refusedTransaction, takenTransaction, transactionOf, typeOr}
+use Rattle.record.specs.Read.{transactionFor, refusedTransaction, takenTransaction, transactionOf}
 
 -- the last row of a chain
 pub last-row : {x : Fault} {r : ℕ} (c n : ℕ) → r ≡ n → x ≡ firstFault (row c r ∷ []) → x ≡ firstOr faultAt (row c n ∷ []) noFault
@@ -184,9 +184,6 @@ header-via identified g before l e = e ∙ header-rows identified g before l
 
 -- ## A transaction
 
-pub taken-made : {k : TransactionType} (t : TypeRead) (n p b : ℕ) → k ≡ typeOr t → _≡_ {A = TransactionRead} (record { number = 0; column = 0; read = record { kind = k; amount = n; payer = p; beneficiary = b } }) (takenTransaction t n p b)
-taken-made t n p b e = rw e
-
 pub type-row : {t : TypeRead} {n : ℕ} (g : Group) (l : List ℕ) → t ≡ typeOf l → n ≡ fieldAnswer (filled 4) (typeTests g t) l → n ≡ fieldAnswer (filled 4) (typeTests g (typeOf l)) l
 type-row g l e h = h ∙ ap (λ t. fieldAnswer (filled 4) (typeTests g t) l) e
 
@@ -298,7 +295,7 @@ module _ {r : TransactionRead} (g : Group) (b : Batch) (xs : List ℕ) (e : r �
 
     pub transaction-taken : r .number ≡ 0 → faultOf said g b Transaction xs ≡ maximaFault b (r .read .amount)
     unfolding pick
-    transaction-taken z = judged-by ∙ rw (eq-eqb (r .number) 0 z) (ap (λ (t : declared.Transaction). maximaFault b (t .amount)) (sym (transaction-read z)))
+    transaction-taken z = judged-by ∙ rw (eq-eqb (r .number) 0 z) (ap (λ (t : TransactionFields). maximaFault b (t .amount)) (sym (transaction-read z)))
 
   pub refused-via : {x : Fault} → (r .number ≡ 0 → ⊥) → x ≡ faultAt (r .column) (r .number) → x ≡ faultOf false g b Transaction xs
   refused-via z h = h ∙ sym (transaction-refused false z)
@@ -333,7 +330,7 @@ in-range w low high v ts l e = by (wellFormed (numeric w) l) (leb low v) (leb v 
     by true false u h e = absurd (omega arith)
     by false q u h e = absurd (omega arith)
 
-pub record Bounded (t : declared.Transaction) : Type 0 where
+pub record Bounded (t : TransactionFields) : Type 0 where
   pub amount : t .amount ≤ maxAmount
   pub payer : t .payer ≤ maxAccount
   pub beneficiary : t .beneficiary ≤ maxAccount
@@ -357,7 +354,7 @@ maxima-kept b n z = by (ltb (b .items) maxItems) refl (leb (b .total + n) maxTot
     by true h false k z = absurd (omega arith)
     by false h q k z = absurd (omega arith)
 
--- ### For users: a header's sequence
+-- ### For users: a header's sequence, and a transaction's type
 
 no-faults : (R : List Row) → firstOr faultAt R noFault .number ≡ 0 → Zeros R
 unfolding firstOr pick
@@ -368,6 +365,15 @@ no-faults (row c n ∷ R) h = by (eqb n 0) refl (no-faults R) h
     by true e f h = (eqb-true n 0 e, f h)
     by false e f h = absurd (true≢false (sym (eq-eqb n 0 h) ∙ e))
 
+is-type : (g : Group) (t : TypeRead) (l : List ℕ) → fieldAnswer (filled 4) (typeTests g t) l ≡ 0 → isType t ≡ true
+unfolding fieldAnswer pick
+is-type g (Of y) l e = refl
+is-type g NoType l e = by (wellFormed (filled 4) l) e
+  where
+    by : (q : Bool) → _≡_ {A = ℕ} (pick q 5 4) 0 → false ≡ true
+    by true e = absurd (omega arith)
+    by false e = absurd (omega arith)
+
 module _ (said : Bool) (g : Group) (b : Batch) (xs : List ℕ) where
   pub header-bounded : faultOf said g b BatchHeaderB xs .number ≡ 0 → sequence (fieldsOf BatchHeaderB xs) ≤ 9999
   unfolding faultOf firstFault
@@ -376,6 +382,10 @@ module _ (said : Bool) (g : Group) (b : Batch) (xs : List ℕ) where
   pub identified-bounded : faultOf said g b BatchHeaderC xs .number ≡ 0 → sequence (unidentified (fieldsOf BatchHeaderC xs)) ≤ 9999
   unfolding faultOf firstFault
   identified-bounded z = in-range 4 1 maxSequence _ _ _ (no-faults _ z .1 .1 .0)
+
+  pub type-known : faultOf said g b Transaction xs .number ≡ 0 → isType (typeOf (type (fieldsOf Transaction xs))) ≡ true
+  unfolding faultOf firstFault
+  type-known z = is-type g (typeOf (type (fieldsOf Transaction xs))) _ (no-faults _ z .0)
 
 -- ### For users: a record's faults have numbers up to 9
 

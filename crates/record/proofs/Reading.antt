@@ -13,39 +13,41 @@ use Rattle.machine.specs.Digits.{pow10, valueOf}
 use Rattle.machine.proofs.Base.{and-first, and-second, true≢false}
 use Rattle.format.specs.Fields.{Field, numeric, filled, optional, free, filler, width, wellFormed, readField}
 use Rattle.format.specs.Records.{layout}
-use Rattle.format.specs.Rules.{groupOf, typeOf}
+use Rattle.format.specs.Rules.{groupOf}
 use Rattle.format.specs.Tests.{Test, Tests}
 use Rattle.format.specs.declared.Group.{Group}
 use Rattle.format.specs.declared.Kind.{Kind}
 use Rattle.format.specs.declared.Kind.the-variants.{FileHeader, BatchHeaderB, BatchHeaderC, FixedDescription, OrderingParty, Transaction, NamePayer, CityPayer, PaymentReference, Description, NameBeneficiary, CityBeneficiary, BatchTrailer, FileTrailer}
 use Rattle.format.specs.declared.TransactionType.{TransactionType}
 use Rattle.format.specs.declared.TypeRead.{TypeRead}
+use Rattle.format.specs.declared.TypeRead.the-variants.{Of}
 use Rattle.format.proofs.Checks.{read-field}
 use Rattle.field.specs.declared.numbers.Digits.{Digits}
 use Rattle.field.specs.Rows.{Row, cut, firstAnswer, fieldAnswer, rowsAt, checkRows, fieldsAt, firstOr}
 use Rattle.field.specs.Leaf.{noDigits, digitsOf}
 use Rattle.field.proofs.Numerics.{digits-are}
 use Rattle.record.specs.Faults.{faultAt, noFault, firstFault, fieldsOf, testsFor, maximaFor, faultOf}
-use Rattle.record.specs.Read.{typeOr, recordFor, noText, padded, textFor, valueIn, valuesAt, valuesOf, headerFor}
+use Rattle.record.specs.Read.{transactionFor, itemOf, recordFor, noText, padded, textFor, valueIn, valuesAt, valuesOf, headerFor}
 use Rattle.record.specs.declared.Fault.{Fault}
 use Rattle.record.specs.declared.Batch.{Batch}
-use Rattle.record.specs.declared.Transaction as declared
+use Rattle.record.specs.declared.TransactionFields.{TransactionFields}
 use Rattle.record.specs.declared.Record.{Record}
-use Rattle.record.specs.declared.Record.the-variants.{BatchHeader}
+use Rattle.record.specs.declared.Record.the-variants.{BatchHeader, Item}
 
 -- ## Records from what calls answered
 
 pub value-of : {d : Digits} (l : List ℕ) → d ≡ digitsOf l → d .value ≡ digitsOf l .value
 value-of l e = ap (λ (x : Digits). x .value) e
 
-pub kind-of : {t : TypeRead} {k : TransactionType} (l : List ℕ) → t ≡ typeOf l → k ≡ typeOr t → k ≡ typeOr (typeOf l)
-kind-of l e h = h ∙ ap typeOr e
-
-pub transaction-made : {k l : TransactionType} {a p b a′ p′ b′ : ℕ} → k ≡ l → a ≡ a′ → p ≡ p′ → b ≡ b′
-    → _≡_ {A = declared.Transaction} (record { kind = k; amount = a; payer = p; beneficiary = b }) (record { kind = l; amount = a′; payer = p′; beneficiary = b′ })
+pub transaction-made : {k l : TypeRead} {a p b a′ p′ b′ : ℕ} → k ≡ l → a ≡ a′ → p ≡ p′ → b ≡ b′
+    → _≡_ {A = TransactionFields} (record { kind = k; amount = a; payer = p; beneficiary = b }) (record { kind = l; amount = a′; payer = p′; beneficiary = b′ })
 transaction-made e f g h = rw (e, f, g, h)
 
-pub ruleset transactions = (kind-of, transaction-made)
+pub item-made : {t : TypeRead} {y : TransactionType} (n p b : ℕ) → t ≡ Of y → Item (record { kind = y; amount = n; payer = p; beneficiary = b }) ≡ itemOf t n p b
+item-made n p b e = rw e
+
+pub item-via : {r : Record} {x : TransactionFields} (line : List ℕ) → x ≡ transactionFor (valuesOf Transaction line) → r ≡ itemOf (x .kind) (x .amount) (x .payer) (x .beneficiary) → r ≡ recordFor Transaction (valuesOf Transaction line)
+item-via line e h = h ∙ ap (λ (x : TransactionFields). itemOf (x .kind) (x .amount) (x .payer) (x .beneficiary)) e
 
 pub header-made : {g : Group} {a s : ℕ} (identified : Bool) (line : List ℕ) → g ≡ groupOf (take 2 (drop 5 line)) → a ≡ digitsOf (take 10 (drop 7 line)) .value → s ≡ digitsOf (take 4 (drop 17 line)) .value → BatchHeader g a s identified ≡ headerFor identified line
 header-made true line e f h = rw (e, f, h)

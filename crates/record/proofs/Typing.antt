@@ -1,10 +1,10 @@
 -- Groups and transaction types. Assumes nothing.
 use Prim.Native.Nat.{ℕ}
-use mathlib.Core.Path.{_≡_, sym, _∙_}
+use mathlib.Core.Path.{_≡_, sym, ap, _∙_}
 use mathlib.Core.List.{List, _∷_}
 use mathlib.Core.Bool.{Bool, true, false}
 use Rattle.machine.specs.Lists.{pick, same}
-use Rattle.format.specs.Rules.{groupText, isGroup, sameGroup, typeGroup}
+use Rattle.format.specs.Rules.{groupText, isGroup, sameGroup, typeGroup, isUnchecked, needsName}
 use Rattle.format.specs.Answers.{wrongValue}
 use Rattle.format.specs.Tests.{test, groupTests, typeTests}
 use Rattle.format.specs.declared.Group.{Group}
@@ -69,3 +69,12 @@ unfolding pick
 type-none g e = rw e
 
 pub ruleset types = (type-right, type-other, type-none)
+
+-- whether an item of a type must have a name
+pub name-by : {t : TypeRead} {y : TransactionType} {b : Bool} → t ≡ Of y → b ≡ isUnchecked y → b ≡ needsName t
+name-by e h = h ∙ ap needsName (sym e)
+
+pub name-none : {t : TypeRead} → t ≡ NoType → false ≡ needsName t
+name-none e = ap needsName (sym e)
+
+pub ruleset names = (name-by, name-none)

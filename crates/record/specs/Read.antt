@@ -10,36 +10,30 @@ use Rattle.format.specs.Tests.{transactionTests}
 use Rattle.format.specs.declared.Kind.{Kind}
 use Rattle.format.specs.declared.Kind.the-variants.{FileHeader, BatchHeaderB, BatchHeaderC, FixedDescription, OrderingParty, Transaction, NamePayer, CityPayer, PaymentReference, Description, NameBeneficiary, CityBeneficiary, BatchTrailer, FileTrailer}
 use Rattle.format.specs.declared.Group.{Group}
-use Rattle.format.specs.declared.TransactionType.{TransactionType}
-use Rattle.format.specs.declared.TransactionType.the-variants.{Creditor}
 use Rattle.format.specs.declared.TypeRead.{TypeRead}
 use Rattle.format.specs.declared.TypeRead.the-variants.{Of, NoType}
 use Rattle.field.specs.Rows.{cut, rowsAt, firstOr}
 use Rattle.field.specs.Leaf.{digitsOf}
 use Rattle.record.specs.Faults.{fieldsOf}
-use Rattle.record.specs.declared.Transaction as declared
+use Rattle.record.specs.declared.TransactionFields.{TransactionFields}
 use Rattle.record.specs.declared.TransactionRead.{TransactionRead}
 use Rattle.record.specs.declared.Record.{Record}
 use Rattle.record.specs.declared.Record.the-variants as the
 
 -- ## A transaction
 
--- a type that is none of the six is handed out with no record
-abbrev pub typeOr : TypeRead → TransactionType
-typeOr (Of y) = y
-typeOr NoType = Creditor
+abbrev pub transactionFor : Fields Transaction → TransactionFields
+transactionFor x = record { kind = typeOf (type x); amount = amount x; payer = payer x; beneficiary = beneficiary x }
 
-abbrev pub transactionFor : Fields Transaction → declared.Transaction
-transactionFor x = record { kind = typeOr (typeOf (type x)); amount = amount x; payer = payer x; beneficiary = beneficiary x }
-
-abbrev pub noTransaction : declared.Transaction
-noTransaction = record { kind = Creditor; amount = 0; payer = 0; beneficiary = 0 }
+-- 'With a refusal no fields are handed out: numbers are zero'
+abbrev pub noTransaction : TransactionFields
+noTransaction = record { kind = NoType; amount = 0; payer = 0; beneficiary = 0 }
 
 abbrev pub refusedTransaction : ℕ → ℕ → TransactionRead
 refusedTransaction column number = record { number = number; column = column; read = noTransaction }
 
 abbrev pub takenTransaction : TypeRead → ℕ → ℕ → ℕ → TransactionRead
-takenTransaction t n p b = record { number = 0; column = 0; read = record { kind = typeOr t; amount = n; payer = p; beneficiary = b } }
+takenTransaction t n p b = record { number = 0; column = 0; read = record { kind = t; amount = n; payer = p; beneficiary = b } }
 
 -- the fields of a transaction, and what is wrong in them first
 unfoldable pub transactionOf : Group → ℕ → List ℕ → TransactionRead
@@ -49,13 +43,18 @@ transactionOf g own line =
 
 -- ## Every kind
 
+-- a type that is none of the six is in no record
+abbrev pub itemOf : TypeRead → ℕ → ℕ → ℕ → Record
+itemOf (Of y) n p b = the.Item (record { kind = y; amount = n; payer = p; beneficiary = b })
+itemOf NoType n p b = the.Nothing
+
 abbrev pub recordFor : (k : Kind) → Fields k → Record
 recordFor FileHeader x = the.FileHeader (creationDate x) (digitsOf (identification x) .value) (duplicateCode x)
 recordFor BatchHeaderB x = the.BatchHeader (groupOf (group x)) (orderingAccount x) (sequence x) false
 recordFor BatchHeaderC x = the.BatchHeader (groupOf (group (unidentified x))) (orderingAccount (unidentified x)) (sequence (unidentified x)) true
 recordFor FixedDescription x = the.FixedDescription
 recordFor OrderingParty x = the.OrderingParty (nameCode x) (desiredDate x) (same (testCode x) (84 ∷ []))
-recordFor Transaction x = the.Item (transactionFor x)
+recordFor Transaction x = itemOf (typeOf (type x)) (amount x) (payer x) (beneficiary x)
 recordFor NamePayer x = the.NamePayer
 recordFor CityPayer x = the.CityPayer
 recordFor PaymentReference x = the.PaymentReference

@@ -19,11 +19,11 @@ ghost use Rattle.record.specs.Read.{refusedTransaction, takenTransaction
 use crate::Batch;
 use crate::Fault;
 use crate::Transaction;
+use crate::TransactionFields;
 use crate::TransactionRead;
 use crate::types::group_answer;
 use crate::types::type_answer;
 use crate::types::type_in;
-use crate::types::type_or;
 use field::accounts::ordering;
 use field::accounts::party;
 use field::bytes::is_digits;
@@ -44,7 +44,6 @@ use field::texts::free_answer;
 use field::texts::optional_answer;
 use format::Group;
 use format::Kind;
-use format::TransactionType;
 use format::TypeRead;
 use format::codes;
 
@@ -256,11 +255,10 @@ fn beneficiary_in(line: &[u8], group: Group, own: u64) -> Numeric
     party(line, 31, is_debits(group), own)
 }
 
-fn transaction_of(t: TypeRead, amount: u64, payer: u64, beneficiary: u64) -> TransactionRead
-    ensures { λ r. ⌜ r ≡ takenTransaction t amount payer beneficiary ⌝ }
+fn transaction_of(kind: TypeRead, amount: u64, payer: u64, beneficiary: u64) -> TransactionRead
+    ensures { λ r. ⌜ r ≡ takenTransaction kind amount payer beneficiary ⌝ }
 {
-    let kind = type_or(t);
-    let read = Transaction {
+    let read = TransactionFields {
         kind,
         amount,
         payer,
@@ -276,8 +274,8 @@ fn transaction_of(t: TypeRead, amount: u64, payer: u64, beneficiary: u64) -> Tra
 fn no_transaction(number: u8, column: u8) -> TransactionRead
     ensures { λ r. ⌜ r ≡ refusedTransaction column number ⌝ }
 {
-    let read = Transaction {
-        kind: TransactionType::Creditor,
+    let read = TransactionFields {
+        kind: TypeRead::NoType,
         amount: 0,
         payer: 0,
         beneficiary: 0,

@@ -3,6 +3,7 @@ ghost use mathlib.Core.Path.{_≡_};
 ghost use Rattle.record.specs.Faults.{emptyBatch};
 use format::Group;
 use format::TransactionType;
+use format::TypeRead;
 
 pub mod faults;
 pub mod kinds;
@@ -59,11 +60,19 @@ impl Transaction {
     pub const MAX_AMOUNT: u64 = 45378021608;
 }
 
-// A transaction read, or what is wrong in it.
+// The fields of a transaction's line, whatever characters stand for its type.
+pub struct TransactionFields {
+    pub kind: TypeRead,
+    pub amount: u64,
+    pub payer: u64,
+    pub beneficiary: u64,
+}
+
+// The fields of a transaction, or what is wrong in them first, with no type and zeros.
 pub struct TransactionRead {
     pub number: u8,
     pub column: u8,
-    pub read: Transaction,
+    pub read: TransactionFields,
 }
 
 // A record of each kind with its numbers; its text stands beside it.

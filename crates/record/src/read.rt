@@ -4,17 +4,18 @@ ghost use lib.ListN.{take, drop};
 ghost use Rattle.format.specs.declared.Kind.the-variants.{FileHeader, OrderingParty, BatchTrailer};
 ghost use Rattle.format.specs.declared.Kind.the-variants as kinds;
 ghost use Rattle.field.specs.Leaf.{digitsOf};
-ghost use Rattle.record.specs.Read.{transactionFor, recordFor, headerFor, padded, textFor, valuesOf};
+ghost use Rattle.record.specs.Read.{transactionFor, itemOf, recordFor, headerFor, padded, textFor, valuesOf};
 use crate::Record;
 use crate::Transaction;
+use crate::TransactionFields;
 use crate::types::group_in;
 use crate::types::type_in;
-use crate::types::type_or;
 use field::bytes::is_same;
 use field::bytes::part;
 use field::bytes::put;
 use field::numbers::digits_at;
 use format::Kind;
+use format::TypeRead;
 use format::codes;
 
 pub fn value_at(line: &[u8], at: usize, width: usize) -> u64
@@ -24,12 +25,11 @@ pub fn value_at(line: &[u8], at: usize, width: usize) -> u64
     d.value
 }
 
-pub fn transaction_at(line: &[u8]) -> Transaction
+pub fn transaction_at(line: &[u8]) -> TransactionFields
     ensures { λ r. ⌜ r ≡ transactionFor (valuesOf kinds.Transaction (now (line .entry))) ⌝ }
 {
-    let kind = type_or(type_in(line));
-    Transaction {
-        kind,
+    TransactionFields {
+        kind: type_in(line),
         amount: value_at(line, 9, 12),
         payer: value_at(line, 21, 10),
         beneficiary: value_at(line, 31, 10),
@@ -67,6 +67,32 @@ fn ordering_party_at(line: &[u8]) -> Record
     }
 }
 
+// A type that is none of the six is in no record.
+fn item_of(t: TypeRead, amount: u64, payer: u64, beneficiary: u64) -> Record
+    ensures { λ r. ⌜ r ≡ itemOf t amount payer beneficiary ⌝ }
+{
+    match t {
+        TypeRead::Of(kind) => {
+            let item = Transaction {
+                kind,
+                amount,
+                payer,
+                beneficiary,
+            };
+            Record::Item(item)
+        }
+        TypeRead::NoType => Record::Nothing,
+    }
+}
+
+fn item_at(line: &[u8]) -> Record
+    ensures { λ r. ⌜ r ≡ recordFor kinds.Transaction (valuesOf kinds.Transaction (now (line .entry))) ⌝ }
+{
+    let x = transaction_at(line);
+    let t = x.kind;
+    item_of(t, x.amount, x.payer, x.beneficiary)
+}
+
 fn batch_trailer_at(line: &[u8]) -> Record
     ensures { λ r. ⌜ r ≡ recordFor BatchTrailer (valuesOf BatchTrailer (now (line .entry))) ⌝ }
 {
@@ -86,7 +112,7 @@ pub fn record_in(kind: Kind, line: &[u8]) -> Record
         Kind::BatchHeaderC => batch_header_at(line, true),
         Kind::FixedDescription => Record::FixedDescription,
         Kind::OrderingParty => ordering_party_at(line),
-        Kind::Transaction => Record::Item(transaction_at(line)),
+        Kind::Transaction => item_at(line),
         Kind::NamePayer => Record::NamePayer,
         Kind::CityPayer => Record::CityPayer,
         Kind::PaymentReference => Record::PaymentReference,

@@ -4,11 +4,10 @@ ghost use mathlib.Core.List.{_∷_};
 ghost use lib.ListN.{take, drop};
 ghost use Rattle.format.specs.Fields.{filled};
 ghost use Rattle.format.specs.Answers.{wrongValue};
-ghost use Rattle.format.specs.Rules.{groupText, isGroup, groupOf, sameGroup, typeText, typeOf, typeGroup, isUnchecked};
+ghost use Rattle.format.specs.Rules.{groupText, isGroup, groupOf, sameGroup, typeText, typeOf, typeGroup, isUnchecked, needsName};
 ghost use Rattle.format.specs.Tests.{test, groupTests, typeTests};
 ghost use Rattle.field.specs.Rows.{firstAnswer, fieldAnswer};
 ghost use Rattle.record.specs.Faults.{groupSaid};
-ghost use Rattle.record.specs.Read.{typeOr};
 use field::bytes::is_same;
 use field::bytes::part;
 use field::texts::filled_answer;
@@ -127,16 +126,6 @@ pub(crate) fn type_in(line: &[u8]) -> TypeRead
     type_of(part(line, 5, 4))
 }
 
-// A type that is none of the six stands in no record that is handed out.
-pub(crate) fn type_or(t: TypeRead) -> TransactionType
-    ensures { λ r. ⌜ r ≡ typeOr t ⌝ }
-{
-    match t {
-        TypeRead::Of(y) => y,
-        TypeRead::NoType => TransactionType::Creditor,
-    }
-}
-
 fn type_group(t: TransactionType) -> Group
     ensures { λ r. ⌜ r ≡ typeGroup t ⌝ }
 {
@@ -150,8 +139,7 @@ fn type_group(t: TransactionType) -> Group
     }
 }
 
-// A type whose item must have a name record.
-pub fn is_unchecked(t: TransactionType) -> bool
+fn is_unchecked(t: TransactionType) -> bool
     ensures { λ r. ⌜ r ≡ isUnchecked t ⌝ }
 {
     match t {
@@ -161,6 +149,16 @@ pub fn is_unchecked(t: TransactionType) -> bool
         TransactionType::Salary => false,
         TransactionType::Debit => false,
         TransactionType::UncheckedDebit => true,
+    }
+}
+
+// A type whose item must have a name record.
+pub fn needs_name(t: TypeRead) -> bool
+    ensures { λ r. ⌜ r ≡ needsName t ⌝ }
+{
+    match t {
+        TypeRead::Of(y) => is_unchecked(y),
+        TypeRead::NoType => false,
     }
 }
 

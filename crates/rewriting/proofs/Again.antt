@@ -12,14 +12,20 @@ use lib.Dec.{T, eqb}
 use Rattle.machine.specs.Lists.{pick, placed}
 use Rattle.machine.proofs.Base.{true≢false}
 use Rattle.format.specs.Cutting.{rowsFrom, rows}
-use Rattle.format.specs.Records.{Fields}
+use Rattle.format.specs.Records.{type, amount, payer, beneficiary}
+use Rattle.format.specs.Rules.{typeOf, isType}
 use Rattle.format.specs.declared.Kind.{Kind}
 use Rattle.format.specs.declared.Kind.the-variants.{FileHeader, BatchHeaderB, BatchHeaderC, FixedDescription, OrderingParty, Transaction, NamePayer, CityPayer, PaymentReference, Description, NameBeneficiary, CityBeneficiary, BatchTrailer, FileTrailer}
 use Rattle.format.specs.declared.Code.the-variants.{Of}
+use Rattle.format.specs.declared.Group.{Group}
+use Rattle.format.specs.declared.TypeRead.{TypeRead}
+use Rattle.format.specs.declared.TypeRead.the-variants as types
 use Rattle.format.proofs.ByRows.{rows-line}
 use Rattle.field.proofs.Putting.{placed-front}
-use Rattle.record.specs.Faults.{fieldsOf}
-use Rattle.record.specs.Read.{recordFor}
+use Rattle.record.specs.Faults.{fieldsOf, faultOf}
+use Rattle.record.specs.Read.{itemOf, recordFor}
+use Rattle.record.specs.declared.Batch.{Batch}
+use Rattle.record.proofs.Faulting.{type-known}
 use Rattle.reading.specs.State.{startState, isKept, within}
 use Rattle.reading.specs.Step.{nextFor, refused, taken, isDone, judgedFirst, nothingRead, readBy, endedAt, refusalLine, stepAt}
 use Rattle.reading.specs.Check.{linesBy, linesOf, answerOf, answerBy, checkOf}
@@ -201,22 +207,27 @@ unfolding is-some
 no-entry none h = refl
 no-entry (some e) h = absurd (true≢false h)
 
-has-entry : (k : Kind) (x : Fields k) → is-some (entryOf (recordFor k x)) ≡ not (isCityKind k)
+item-entry : (t : TypeRead) (n p b : ℕ) → isType t ≡ true → is-some (entryOf (itemOf t n p b)) ≡ true
 unfolding is-some
-has-entry FileHeader x = refl
-has-entry BatchHeaderB x = refl
-has-entry BatchHeaderC x = refl
-has-entry FixedDescription x = refl
-has-entry OrderingParty x = refl
-has-entry Transaction x = refl
-has-entry NamePayer x = refl
-has-entry CityPayer x = refl
-has-entry PaymentReference x = refl
-has-entry Description x = refl
-has-entry NameBeneficiary x = refl
-has-entry CityBeneficiary x = refl
-has-entry BatchTrailer x = refl
-has-entry FileTrailer x = refl
+item-entry (types.Of y) n p b h = refl
+item-entry types.NoType n p b h = absurd (true≢false (sym h))
+
+has-entry : (said : Bool) (g : Group) (b : Batch) (k : Kind) (l : List ℕ) → faultOf said g b k l .number ≡ 0 → is-some (entryOf (recordFor k (fieldsOf k l))) ≡ not (isCityKind k)
+unfolding is-some
+has-entry said g b FileHeader l f = refl
+has-entry said g b BatchHeaderB l f = refl
+has-entry said g b BatchHeaderC l f = refl
+has-entry said g b FixedDescription l f = refl
+has-entry said g b OrderingParty l f = refl
+has-entry said g b Transaction l f = let x = fieldsOf Transaction l in item-entry (typeOf (type x)) (amount x) (payer x) (beneficiary x) (type-known said g b l f)
+has-entry said g b NamePayer l f = refl
+has-entry said g b CityPayer l f = refl
+has-entry said g b PaymentReference l f = refl
+has-entry said g b Description l f = refl
+has-entry said g b NameBeneficiary l f = refl
+has-entry said g b CityBeneficiary l f = refl
+has-entry said g b BatchTrailer l f = refl
+has-entry said g b FileTrailer l f = refl
 
 abbrev readAs : State → (k : Kind) → List ℕ → LineRead
 readAs s k xs = readBy (take 50 xs) (Of k) (taken k (nextBy s k xs))
@@ -241,7 +252,7 @@ module _ {s : State} {x : ℕ} {xs : List ℕ} (tk : Taken s (x ∷ xs)) (w : St
     read-w = step-as w x xs (tk .kind) (taken-too b tk c)
 
     entry : (e : Entry) × (entryOf (recordFor (tk .kind) (fieldsOf (tk .kind) (take 50 (x ∷ xs)))) ≡ some e)
-    entry = the-entry (entryOf (recordFor (tk .kind) (fieldsOf (tk .kind) (take 50 (x ∷ xs))))) (has-entry (tk .kind) (fieldsOf (tk .kind) (take 50 (x ∷ xs))) ∙ ap not c)
+    entry = the-entry (entryOf (recordFor (tk .kind) (fieldsOf (tk .kind) (take 50 (x ∷ xs))))) (has-entry (s .said) (s .group) (s .batch) (tk .kind) (take 50 (x ∷ xs)) (tk .faultless) ∙ ap not c)
 
     line-is : take 52 (x ∷ xs) ≡ lineFor w (entry .0) (stepAt s (x ∷ xs) .text)
     line-is =
@@ -261,7 +272,7 @@ module _ {s : State} {x : ℕ} {xs : List ℕ} (tk : Taken s (x ∷ xs)) (w : St
   unfolding pick
   line-written true e =
       let c = sym (city-kind (x ∷ xs) tk) ∙ e in
-      let o = no-entry (entryOf (recordFor (tk .kind) (fieldsOf (tk .kind) (take 50 (x ∷ xs))))) (has-entry (tk .kind) (fieldsOf (tk .kind) (take 50 (x ∷ xs))) ∙ ap not c) in
+      let o = no-entry (entryOf (recordFor (tk .kind) (fieldsOf (tk .kind) (take 50 (x ∷ xs))))) (has-entry (s .said) (s .group) (s .batch) (tk .kind) (take 50 (x ∷ xs)) (tk .faultless) ∙ ap not c) in
       city (ap (λ (r : LineRead). r .answer) read-s) (ap (λ (r : LineRead). entryOf (r .read)) read-s ∙ o) (after w (behind-city b tk c))
   line-written false e = kept-written (sym (city-kind (x ∷ xs) tk) ∙ e)
 

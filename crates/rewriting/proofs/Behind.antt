@@ -11,7 +11,7 @@ use lib.Dec.{eqb, leb, ltb}
 use Rattle.machine.specs.Lists.{pick, same}
 use Rattle.machine.proofs.Base.{and-second, true≢false}
 use Rattle.format.specs.Records.{Fields, code}
-use Rattle.format.specs.Rules.{mostDescriptions, sameGroup, isUnchecked}
+use Rattle.format.specs.Rules.{mostDescriptions, sameGroup, needsName}
 use Rattle.format.specs.declared.Kind.{Kind}
 use Rattle.format.specs.declared.Kind.the-variants.{FileHeader, BatchHeaderB, BatchHeaderC, FixedDescription, OrderingParty, Transaction, NamePayer, CityPayer, PaymentReference, Description, NameBeneficiary, CityBeneficiary, BatchTrailer, FileTrailer}
 use Rattle.format.specs.declared.Group.{Group}
@@ -142,7 +142,7 @@ next-behind s l n h e BatchHeaderB c x = by (nextFor s BatchHeaderB x) (l + 1) U
 next-behind s l n h e BatchHeaderC c x = by (nextFor s BatchHeaderC x) (l + 1) Unwanted (omega arith) (alike refl)
 next-behind s l n h e FixedDescription c x = by (nextFor s FixedDescription x) (l + 1) n (omega arith) e
 next-behind s l n h e OrderingParty c x = by (nextFor s OrderingParty x) (l + 1) n (omega arith) e
-next-behind s l n h e Transaction c x = by (nextFor s Transaction x) (l + 1) (nameIf (isUnchecked (transactionFor x .kind))) (omega arith) (alike refl)
+next-behind s l n h e Transaction c x = by (nextFor s Transaction x) (l + 1) (nameIf (needsName (transactionFor x .kind))) (omega arith) (alike refl)
 next-behind s l n h e NamePayer c x = by (nextFor s NamePayer x) (l + 1) Read (omega arith) (alike refl)
 next-behind s l n h e CityPayer c x = absurd (true≢false c)
 next-behind s l n h e PaymentReference c x = by (nextFor s PaymentReference x) (l + 1) (afterText n) (omega arith) (text-like e)

@@ -12,15 +12,13 @@ use Rattle.machine.specs.Lists.{pick, same}
 use Rattle.machine.proofs.Base.{next, refuse, same→eq}
 use Rattle.format.specs.Fields.{widths, readFields}
 use Rattle.format.specs.Records.{layout, code, Fields, type, amount, payer, beneficiary}
-use Rattle.format.specs.Rules.{isUnchecked, needsName, typeOf}
+use Rattle.format.specs.Rules.{needsName, typeOf}
 use Rattle.format.specs.Language.{In, tenDigits}
 use Rattle.format.specs.Tests.{Check}
 use Rattle.format.specs.declared.Kind.{Kind}
 use Rattle.format.specs.declared.Kind.the-variants.{Transaction}
 use Rattle.format.specs.declared.Group.{Group}
 use Rattle.format.specs.declared.Group.the-variants.{Payments, Debits}
-use Rattle.format.specs.declared.TypeRead.{TypeRead}
-use Rattle.format.specs.declared.TypeRead.the-variants as types
 use Rattle.format.specs.declared.Code.{Code}
 use Rattle.format.specs.declared.Code.the-variants.{Of, Unknown}
 use Rattle.format.proofs.Checks.{judge, pass-judge, lineChecks}
@@ -30,7 +28,7 @@ use Rattle.format.proofs.Link.{find-code, not-ended, line-widths, step-in, step
 use Rattle.field.specs.Rows.{cut}
 use Rattle.record.specs.Kinds.{codeOf}
 use Rattle.record.specs.Faults.{fieldsOf, testsFor, maximaFor, faultOf}
-use Rattle.record.specs.Read.{typeOr, transactionFor}
+use Rattle.record.specs.Read.{transactionFor}
 use Rattle.record.specs.declared.Batch.{Batch}
 use Rattle.record.specs.declared.Fault.{Fault}
 use Rattle.record.proofs.Faulting.{fault-numbers}
@@ -77,10 +75,6 @@ room-more false (suc n) m h =
 
 -- ## A new item
 
-unnamed : (t : TypeRead) → needsName t ≡ isUnchecked (typeOr t)
-unnamed (types.Of y) = refl
-unnamed types.NoType = refl
-
 opens-item : (g : Group) (n : Bool) → opens g n ≡ itemPhase g (nameIf n) fresh
 opens-item Payments true = refl
 opens-item Payments false = refl
@@ -92,8 +86,8 @@ adds-item b x =
     let e : suc (b .items) ≡ b .items + 1 = omega arith in
     λ i. record { account = b .account; before = record { sequence = b .sequence }; total = b .total + amount x; accounts = tenDigits (b .accounts + payer x + beneficiary x); count = e i }
 
-begins-item : (g : Group) (b : Batch) (x : Fields Transaction) → beginItem g (contextOf b) x ≡ at (itemPhase g (nameIf (isUnchecked (transactionFor x .kind))) fresh) (contextOf (paidBatch b (transactionFor x)))
-begins-item g b x = ap₂ at (opens-item g (needsName (typeOf (type x))) ∙ ap (λ n. itemPhase g (nameIf n) fresh) (unnamed (typeOf (type x)))) (adds-item b x)
+begins-item : (g : Group) (b : Batch) (x : Fields Transaction) → beginItem g (contextOf b) x ≡ at (itemPhase g (nameIf (needsName (transactionFor x .kind))) fresh) (contextOf (paidBatch b (transactionFor x)))
+begins-item g b x = ap₂ at (opens-item g (needsName (typeOf (type x)))) (adds-item b x)
 
 -- ## An edge of the reader from a state: the same tests, and the place of the next state
 

@@ -9,7 +9,7 @@ use lib.Dec.{T, eqb, ltb, ltb→lt, eqb→eq}
 use Rattle.machine.specs.Lists.{inRange}
 use Rattle.machine.proofs.Base.{and-l, and-r, of-eq}
 use Rattle.format.specs.Records.{Fields, sequence, unidentified}
-use Rattle.format.specs.Rules.{maxSequence, mostDescriptions, sameGroup, isUnchecked}
+use Rattle.format.specs.Rules.{maxSequence, mostDescriptions, sameGroup, needsName}
 use Rattle.format.specs.Language.{Follows}
 use Rattle.format.specs.Tests.{isNext}
 use Rattle.format.specs.declared.Kind.{Kind}
@@ -20,7 +20,7 @@ use Rattle.format.proofs.Sound.{inRange→In, isNext→Follows}
 use Rattle.record.specs.Faults.{fieldsOf, faultOf}
 use Rattle.record.specs.Read.{transactionFor}
 use Rattle.record.specs.declared.Batch.{Batch}
-use Rattle.record.specs.declared.Transaction as items
+use Rattle.record.specs.declared.TransactionFields.{TransactionFields}
 use Rattle.reading.specs.State.{startState, within, Kept}
 use Rattle.reading.specs.Order.{stageNumber, isStage, isName, mayOpen, mayFix, mayEnd, mayPay, mayName, textsBy, mayText, mayRefer, mayDescribe, allowed}
 use Rattle.reading.specs.Step.{opened, withFixed, paid, named, texted, nextFor, nameIf, afterText, judgedFirst}
@@ -161,10 +161,10 @@ module _ (s : State) (kept : Kept s) (i : LinesAt (s .stage) s) where
       (λ p. let w = at-stage Headed p in omega arith)
       (λ p. let w = at-stage Closed p in omega (arith, following (s .batch .sequence) n (w .1) (isNext→Follows (s .batch .sequence) n t)))
 
-  paid-lines : (t : items.Transaction) → T (mayPay (s .stage) (s .item .name)) → LinesAt Item (paid s t)
+  paid-lines : (t : TransactionFields) → T (mayPay (s .stage) (s .item .name)) → LinesAt Item (paid s t)
   unfolding mayPay mayEnd
   paid-lines t a =
-      let z = new-name (isUnchecked (t .kind)) in
+      let z = new-name (needsName (t .kind)) in
       either (isStage (s .stage) Ordered) (isStage (s .stage) Item && not (isName (s .item .name) Due)) a
       (λ p. let w = at-stage Ordered p in omega arith)
       (λ p. let w = at-stage Item (and-l (isStage (s .stage) Item) (not (isName (s .item .name) Due)) p) in omega (arith, few-names (s .item .name)))

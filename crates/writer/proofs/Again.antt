@@ -1,6 +1,6 @@
 -- READ, THEN WRITTEN: an accepted line that is no city is what is written of its record and text. Assumes nothing.
 use Prim.Native.Nat.{ℕ, _-_, _≤_, _<_}
-use mathlib.Core.Path.{_≡_, refl, sym, ap, ap₂, _∙_}
+use mathlib.Core.Path.{_≡_, refl, sym, ap, ap₂, _∙_, subst}
 use mathlib.Core.List.{List, [], _∷_, _++_}
 use mathlib.Core.Bool.{Bool, true, false, not, _||_}
 use mathlib.Core.Option.{none, some}
@@ -19,6 +19,7 @@ use Rattle.format.specs.Rules.{CLIEOP03, EUR, isTestCode, isIdentification, gro
 use Rattle.format.specs.declared.Kind.{Kind}
 use Rattle.format.specs.declared.Kind.the-variants as kinds
 use Rattle.format.specs.declared.Group.the-variants.{Payments, Debits}
+use Rattle.format.specs.declared.TypeRead.{TypeRead}
 use Rattle.format.specs.declared.TypeRead.the-variants.{Of, NoType}
 use Rattle.format.specs.declared.TransactionType.{TransactionType}
 use Rattle.format.specs.declared.TransactionType.the-variants.{UncheckedCreditor, UncheckedSalary, Creditor, Salary, Debit, UncheckedDebit}
@@ -27,7 +28,7 @@ use Rattle.field.specs.declared.numbers.Digits.{Digits}
 use Rattle.field.specs.Leaf.{digitsOf}
 use Rattle.field.proofs.Numerics.{digits-are}
 use Rattle.record.specs.Faults.{fieldsOf, testsFor}
-use Rattle.record.specs.Read.{typeOr, transactionFor, recordFor, textFor, noText, padded}
+use Rattle.record.specs.Read.{itemOf, recordFor, textFor, noText, padded}
 use Rattle.reading.specs.Step.{stepAt}
 use Rattle.reading.specs.declared.State.{State}
 use Rattle.reading.specs.declared.LineRead.{LineRead}
@@ -107,26 +108,29 @@ test-again t h = by (same t (80 ∷ [])) (same t (84 ∷ [])) refl refl
     by true false p q k = same-text 1 t (80 ∷ []) h (of-eq _ p)
     by false false p q k = absurd k
 
-type-again : (t : List ℕ) → length t ≡ 4 → T (isType (typeOf t)) → textIn 4 (typeText (typeOr (typeOf t))) ≡ t
+one-type : (y z : TransactionType) → Of y ≡ Of z → y ≡ z
+one-type y z q = cc
+
+type-again : (t : List ℕ) (y : TransactionType) → length t ≡ 4 → typeOf t ≡ Of y → textIn 4 (typeText y) ≡ t
 unfolding typeOf pick
-type-again t h =
+type-again t y h =
     by (same t (typeText UncheckedCreditor)) (same t (typeText UncheckedSalary)) (same t (typeText Creditor)) (same t (typeText Salary)) (same t (typeText Debit)) (same t (typeText UncheckedDebit))
     refl refl refl refl refl refl
   where
-    this : (y : TransactionType) → same t (typeText y) ≡ true → textIn 4 (typeText y) ≡ t
-    this y p = same-text 4 t (typeText y) h (of-eq _ p)
+    this : (z : TransactionType) → same t (typeText z) ≡ true → Of z ≡ Of y → textIn 4 (typeText y) ≡ t
+    this z p q = subst (λ x. textIn 4 (typeText x) ≡ t) (one-type z y q) (same-text 4 t (typeText z) h (of-eq _ p))
 
     by : (a b c d e f : Bool) → same t (typeText UncheckedCreditor) ≡ a → same t (typeText UncheckedSalary) ≡ b → same t (typeText Creditor) ≡ c → same t (typeText Salary) ≡ d
         → same t (typeText Debit) ≡ e → same t (typeText UncheckedDebit) ≡ f
-        → T (isType (pick a (Of UncheckedCreditor) (pick b (Of UncheckedSalary) (pick c (Of Creditor) (pick d (Of Salary) (pick e (Of Debit) (pick f (Of UncheckedDebit) NoType)))))))
-        → textIn 4 (typeText (typeOr (pick a (Of UncheckedCreditor) (pick b (Of UncheckedSalary) (pick c (Of Creditor) (pick d (Of Salary) (pick e (Of Debit) (pick f (Of UncheckedDebit) NoType)))))))) ≡ t
-    by true b c d e f p q r u v w k = this UncheckedCreditor p
-    by false true c d e f p q r u v w k = this UncheckedSalary q
-    by false false true d e f p q r u v w k = this Creditor r
-    by false false false true e f p q r u v w k = this Salary u
-    by false false false false true f p q r u v w k = this Debit v
-    by false false false false false true p q r u v w k = this UncheckedDebit w
-    by false false false false false false p q r u v w k = absurd k
+        → pick a (Of UncheckedCreditor) (pick b (Of UncheckedSalary) (pick c (Of Creditor) (pick d (Of Salary) (pick e (Of Debit) (pick f (Of UncheckedDebit) NoType))))) ≡ Of y
+        → textIn 4 (typeText y) ≡ t
+    by true b c d e f p q r u v w k = this UncheckedCreditor p k
+    by false true c d e f p q r u v w k = this UncheckedSalary q k
+    by false false true d e f p q r u v w k = this Creditor r k
+    by false false false true e f p q r u v w k = this Salary u k
+    by false false false false true f p q r u v w k = this Debit v k
+    by false false false false false true p q r u v w k = this UncheckedDebit w k
+    by false false false false false false p q r u v w k = absurd (subst (λ x. T (isType x)) (sym k) tt)
 
 -- ## Each kind
 
@@ -140,6 +144,24 @@ written-as : (s : State) (t : List ℕ) (a : Entry) (x : Fields (kindOf a)) → 
     → code (kindOf a) ++ (writeFields (layout (kindOf a)) x ++ lineEnd) ≡ lineFor s e t
 unfolding lineFor encodedLine
 written-as s t a x h e p = ap (λ b. code (kindOf a) ++ (b ++ lineEnd)) (sym (stands (layout (kindOf a)) (givenFor s t a) x h)) ∙ ap (λ b. lineFor s b t) (one-entry a e p)
+
+item-again : (s : State) (x : Fields kinds.Transaction) → Fits (layout kinds.Transaction) x → (e : Entry) (t : TypeRead) → typeOf (type x) ≡ t → entryOf (itemOf t (amount x) (payer x) (beneficiary x)) ≡ some e
+    → code kinds.Transaction ++ (writeFields (layout kinds.Transaction) x ++ lineEnd) ≡ lineFor s e noText
+item-again s x f e (Of y) p q =
+    written-as s noText (Item (record { kind = y; amount = amount x; payer = payer x; beneficiary = beneficiary x })) x (
+      type-again (type x) y (f .0 .0) p,
+      (
+        number-in 12 (amount x) (f .1 .0),
+        (
+          number-in 10 (payer x) (f .1 .1 .0),
+          (
+            number-in 10 (beneficiary x) (f .1 .1 .1 .0),
+            (blank-none 9, tt),
+          ),
+        ),
+      ),
+    ) e q
+item-again s x f e NoType p q = absurd (none≢some e q)
 
 again : (s : State) (k : Kind) (x : Fields k) → Fits (layout k) x → Holds (layout k) (testsFor (s .said) (s .group) (s .batch) k x) → (e : Entry) → entryOf (recordFor k x) ≡ some e
     → code k ++ (writeFields (layout k) x ++ lineEnd) ≡ lineFor s e (textFor k x)
@@ -209,20 +231,7 @@ again s kinds.OrderingParty x f h e q =
         ),
       ),
     ) e q
-again s kinds.Transaction x f h e q =
-    written-as s noText (Item (transactionFor x)) x (
-      type-again (type x) (f .0 .0) (h .0 .0),
-      (
-        number-in 12 (amount x) (f .1 .0),
-        (
-          number-in 10 (payer x) (f .1 .1 .0),
-          (
-            number-in 10 (beneficiary x) (f .1 .1 .1 .0),
-            (blank-none 9, tt),
-          ),
-        ),
-      ),
-    ) e q
+again s kinds.Transaction x f h e q = item-again s x f e (typeOf (type x)) refl q
 again s kinds.NamePayer x f h e q = written-as s (padded (x .0)) NamePayer x (text-in 35 (x .0) (f .0 .0) (omega arith), (blank-nothing 10, tt)) e q
 again s kinds.CityPayer x f h e q = absurd (none≢some e q)
 again s kinds.PaymentReference x f h e q = written-as s (padded (x .0)) PaymentReference x (text-in 16 (x .0) (f .0 .0) (omega arith), (blank-nothing 29, tt)) e q

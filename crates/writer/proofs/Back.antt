@@ -19,6 +19,7 @@ use Rattle.format.specs.Rules.{groupText, groupOf, typeText, typeOf}
 use Rattle.format.specs.declared.Group.{Group}
 use Rattle.format.specs.declared.Group.the-variants.{Payments, Debits}
 use Rattle.format.specs.declared.TransactionType.{TransactionType}
+use Rattle.format.specs.declared.TypeRead.the-variants.{Of}
 use Rattle.format.specs.declared.TransactionType.the-variants.{UncheckedCreditor, UncheckedSalary, Creditor, Salary, Debit, UncheckedDebit}
 use Rattle.format.proofs.Checks.{field-read}
 use Rattle.format.proofs.Link.{line-widths}
@@ -26,7 +27,7 @@ use Rattle.field.specs.declared.numbers.Digits.{Digits}
 use Rattle.field.specs.Leaf.{digitsOf}
 use Rattle.field.proofs.Numerics.{digits-are}
 use Rattle.record.specs.Faults.{fieldsOf}
-use Rattle.record.specs.Read.{typeOr, recordFor, textFor, noText, padded}
+use Rattle.record.specs.Read.{itemOf, recordFor, textFor, noText, padded}
 use Rattle.record.specs.declared.Record.the-variants as read
 use Rattle.reading.specs.Step.{nextFor, stepAt}
 use Rattle.reading.specs.declared.State.{State}
@@ -167,7 +168,7 @@ sized s t h FileTrailer = ((omega arith, omega arith), tt)
 
 -- ## The record
 
-type-of : (y : TransactionType) → typeOr (typeOf (take 4 (typeText y))) ≡ y
+type-of : (y : TransactionType) → typeOf (take 4 (typeText y)) ≡ Of y
 unfolding typeOf same pick
 type-of UncheckedCreditor = refl
 type-of UncheckedSalary = refl
@@ -207,7 +208,7 @@ record-back s t (BatchHeader g a q true) f = ap (λ y. read.BatchHeader y a q tr
 record-back s t (BatchHeader g a q false) f = ap (λ y. read.BatchHeader y a q false) (group-of g)
 record-back s t FixedDescription f = refl
 record-back s t (OrderingParty n d b) f = ap (λ y. read.OrderingParty n d y) (test-of b)
-record-back s t (Item x) f = ap (λ y. read.Item (record { kind = y; amount = x .amount; payer = x .payer; beneficiary = x .beneficiary })) (type-of (x .kind))
+record-back s t (Item x) f = ap (λ y. itemOf y (x .amount) (x .payer) (x .beneficiary)) (type-of (x .kind))
 record-back s t NamePayer f = refl
 record-back s t PaymentReference f = refl
 record-back s t Description f = refl

@@ -1,5 +1,5 @@
 use borrow.Author.Needs.{needs}
-use Rattle.record.proofs.Reading.{transactions}
+use Rattle.record.proofs.Reading.{transaction-made}
 use Rattle.record.proofs.read.transaction_at.Statement.{statement}
 use Rattle.record.proofs.read.transaction_at.Tie as tie
 
@@ -8,9 +8,8 @@ transaction-at-spec =
     tie.close
     (tie.spec
     (λ c κs. search needs)  -- type-in-requires
-    (λ c κs. search needs)  -- type-or-requires
     (λ c κs. search needs)  -- value-at-requires
     (λ c κs. search needs)  -- value-at-requires-2
     (λ c κs. search needs)  -- value-at-requires-3
-    (λ c. search transactions depth 20 fits 10000)  -- returns
+    (λ c. search transaction-made depth 20 fits 10000)  -- returns
     )
