@@ -16,7 +16,7 @@ use Rattle.reading.specs.declared.Answer.{Answer}
 use Rattle.descriptions.specs.Texts.{merged}
 use Rattle.descriptions.specs.declared.Descriptions.{Descriptions}
 use Rattle.items.specs.Search.{noFields, started, afterRows}
-use Rattle.items.specs.Answering.{told, isFound, textsFound, answeredBy, roomBy, itemOf, roomAfter}
+use Rattle.items.specs.Answering.{told, isFound, textsFound, answeredBy, roomBy, isWithin, answeredAt, roomAt, itemOf, roomAfter}
 use Rattle.items.specs.declared.ItemFields.{ItemFields}
 use Rattle.items.specs.declared.Found.{Found}
 use Rattle.items.specs.declared.Search.{Search}
@@ -64,6 +64,27 @@ module _ (s : Search) (a : Answer) (out : List ℕ) where
   room-filled {o} {t} z e f l g n h = put-front out t (omega (arith, n)) h ∙ ap (λ m. t ++ drop m out) n ∙ ap (λ y. y ++ drop 128 out) g ∙ rw (eq-eqb _ _ z, ← e, f, le-leb 128 (length out) l)
 
 pub ruleset rooms = (by-refusal, by-none, by-room, by-item, room-refused, room-none, room-small, room-filled, needs)
+
+-- ## A search handed in
+
+module _ {q : Bool} (s : Search) (a : Answer) (e : q ≡ isWithin (s .found)) where
+  pub at-within : {w : ItemRead} (room : ℕ) → q ≡ true → w ≡ answeredBy s a room → w ≡ answeredAt s a room
+  unfolding answeredAt pick
+  at-within room f h = h ∙ rw (← e, f)
+
+  pub at-beyond : {w : ItemRead} (room : ℕ) → q ≡ false → w ≡ told 24 0 0 noFields → w ≡ answeredAt s a room
+  unfolding answeredAt pick
+  at-beyond room f h = h ∙ rw (← e, f)
+
+  pub room-within : {o : List ℕ} (out : List ℕ) → q ≡ true → o ≡ roomBy s a out → o ≡ roomAt s a out
+  unfolding roomAt pick
+  room-within out f h = h ∙ rw (← e, f)
+
+  pub room-beyond : (out : List ℕ) → q ≡ false → out ≡ roomAt s a out
+  unfolding roomAt pick
+  room-beyond out f = rw (← e, f)
+
+pub ruleset limits = (at-within, at-beyond, room-within, room-beyond, needs)
 
 -- ## The whole
 

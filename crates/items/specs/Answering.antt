@@ -1,13 +1,13 @@
 -- HOW THE ANSWER IS FOUND: what is told to one who asks for an item after the search, and the lent room then. What to believe of the answer is said in Promises.antt.
 use Prim.Native.Nat.{ℕ}
 use mathlib.Core.List.{List, _++_}
-use mathlib.Core.Bool.{Bool, true, false}
+use mathlib.Core.Bool.{Bool, true, false, _&&_}
 use lib.ListN.{length, drop}
 use lib.Dec.{leb, eqb}
 use Rattle.machine.specs.Lists.{pick}
-use Rattle.format.specs.Answers.{accepted, noRoom, noSuchItem}
+use Rattle.format.specs.Answers.{accepted, noRoom, noSuchItem, beyondLimits}
 use Rattle.format.specs.Cutting.{rows}
-use Rattle.format.specs.Rules.{mostDescriptions}
+use Rattle.format.specs.Rules.{maxFixed, maxDescriptions, mostDescriptions}
 use Rattle.format.specs.declared.TypeRead.{TypeRead}
 use Rattle.format.specs.declared.TypeRead.the-variants.{Of, NoType}
 use Rattle.reading.specs.Check.{checkOf}
@@ -49,6 +49,16 @@ roomBy s a out =
     out)
     out)
     out
+
+-- at most four descriptions of a kind; 24 is for a search beyond that. (No lines lead there from a start: a fifth is not kept.)
+unfoldable pub isWithin : Found → Bool
+isWithin f = leb (f .fixed .count) maxFixed && leb (f .own .count) maxDescriptions
+
+unfoldable pub answeredAt : Search → Answer → ℕ → ItemRead
+answeredAt s a room = pick (isWithin (s .found)) (answeredBy s a room) (told beyondLimits 0 0 noFields)
+
+unfoldable pub roomAt : Search → Answer → List ℕ → List ℕ
+roomAt s a out = pick (isWithin (s .found)) (roomBy s a out) out
 
 -- THE ANSWER to one who asks for an item of a file, with so much room
 unfoldable pub itemOf : List ℕ → ℕ → ℕ → ℕ → ItemRead

@@ -2,7 +2,7 @@
 ghost use mathlib.Core.Path.{_≡_};
 ghost use lib.ListN.{length};
 ghost use Rattle.items.specs.Search.{noFields};
-ghost use Rattle.items.specs.Answering.{told, isFound, textsFound, answeredBy, roomBy, itemOf, roomAfter};
+ghost use Rattle.items.specs.Answering.{told, isFound, textsFound, answeredBy, roomBy, isWithin, answeredAt, roomAt, itemOf, roomAfter};
 ghost use Rattle.items.specs.Promises.{Promised};
 use crate::Found;
 use crate::ItemRead;
@@ -12,6 +12,7 @@ use descriptions::merge;
 use field::bytes::put;
 use format::TypeRead;
 use reading::Answer;
+use record::Batch;
 
 fn is_found(kind: TypeRead) -> bool
     ensures { λ r. ⌜ r ≡ isFound kind ⌝ }
@@ -35,6 +36,15 @@ fn refusal(answer: u8, line: u64, column: u8) -> ItemRead
 }
 
 impl Found {
+    // At most four descriptions of a kind.
+    fn is_within(self) -> bool
+        ensures { λ r. ⌜ r ≡ isWithin self ⌝ }
+    {
+        let fixed = self.fixed;
+        let own = self.own;
+        (fixed.count <= Batch::MAX_FIXED) & (own.count <= format::MAX_DESCRIPTIONS)
+    }
+
     // The fixed descriptions and then the item's own, in four places of 32 characters.
     fn texts(self) -> [u8; 128]
         ensures { λ r. ⌜ r ≡ textsFound self ⌝ }
@@ -47,8 +57,8 @@ impl Found {
 }
 
 impl Search {
-    // After all lines of a file, by the file's own answer: its refusal; 13; 12; or the item, with its descriptions in the first 128 bytes of the room.
-    pub fn answered(self, file: Answer, out: &mut [u8]) -> ItemRead
+    // By the file's own answer: its refusal; 13; 12; or the item, with its descriptions in the first 128 bytes of the room.
+    fn told(self, file: Answer, out: &mut [u8]) -> ItemRead
         ensures answer { λ r. ⌜ r ≡ answeredBy self file (length (now (out .entry))) ⌝ }
         ensures bytes { λ _. ⌜ now (out .exit) ≡ roomBy self file (now (out .entry)) ⌝ }
     {
@@ -73,6 +83,19 @@ impl Search {
         }
         refusal(format::NO_SUCH_ITEM, file.line, 0)
     }
+
+    // After all lines of a file, by the file's own answer; 24 where the search handed in has over four descriptions of a kind.
+    pub fn answered(self, file: Answer, out: &mut [u8]) -> ItemRead
+        ensures answer { λ r. ⌜ r ≡ answeredAt self file (length (now (out .entry))) ⌝ }
+        ensures bytes { λ _. ⌜ now (out .exit) ≡ roomAt self file (now (out .entry)) ⌝ }
+    {
+        let found = self.found;
+        if found.is_within() {
+            self.told(file, out)
+        } else {
+            refusal(format::BEYOND_LIMITS, 0, 0)
+        }
+    }
 }
 
 // Item k of batch b of a file, each from 1; and what the answer means: of a file of the language it is that item of its reading, or 13
@@ -85,5 +108,5 @@ pub fn item(file: &[u8], batch: u64, item: u64, out: &mut [u8]) -> ItemRead
     let answer = reading::check(file);
     let search = Search::start(batch, item);
     let after = search.lines(file);
-    after.answered(answer, out)
+    after.told(answer, out)
 }

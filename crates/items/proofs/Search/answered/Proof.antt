@@ -1,5 +1,5 @@
 use borrow.Author.Needs.{needs}
-use Rattle.items.proofs.Answering.{rooms}
+use Rattle.items.proofs.Answering.{limits}
 use Rattle.items.proofs.Search.answered.Statement.{statement}
 use Rattle.items.proofs.Search.answered.Tie as tie
 
@@ -7,16 +7,10 @@ pub answered-spec : {M : Type 1} → statement M
 answered-spec =
     tie.close
     (tie.spec
+    (λ c κs. search needs)  -- is-within-requires
+    (λ c κs. search needs)  -- told-requires
     (λ c κs. search needs)  -- refusal-requires
-    (λ c. (search rooms depth 20 fits 10000, search rooms depth 20 fits 10000))  -- returns
-    (λ c κs. search needs)  -- is-found-requires
-    (λ c κs. search needs)  -- refusal-requires-2
-    (λ c. (search rooms depth 20 fits 10000, search rooms depth 20 fits 10000))  -- returns-2
-    (λ c κs. search needs)  -- texts-requires
-    (λ c. search needs)  -- slice-aggregate-put
-    (λ c κs. search needs)  -- put-requires
     (λ c. search needs)  -- same-length
-    (λ c. (search rooms depth 20 fits 10000, search rooms depth 20 fits 10000))  -- returns-3
-    (λ c κs. search needs)  -- refusal-requires-3
-    (λ c. (search rooms depth 20 fits 10000, search rooms depth 20 fits 10000))  -- returns-4
+    (λ c. (search limits depth 20 fits 10000, search limits depth 20 fits 10000))  -- returns
+    (λ c. (search limits depth 20 fits 10000, search limits depth 20 fits 10000))  -- returns-2
     )
