@@ -8,6 +8,6 @@ digit-of-spec =
     tie.close
     (tie.spec
     (λ c. search needs)  -- add-result
-    (λ c. search statuses depth 20 fits 10000)  -- returns
-    (λ c. search statuses depth 20 fits 10000)  -- returns-2
+    (λ c. search statuses depth 4)  -- returns
+    (λ c. search statuses depth 4)  -- returns-2
     )

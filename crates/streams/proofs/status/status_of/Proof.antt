@@ -9,7 +9,7 @@ unfolding statusOf
 status-of-spec =
     tie.close
     (tie.spec
-    (λ c. search picks depth 20 fits 10000)  -- returns
-    (λ c. search picks depth 20 fits 10000)  -- returns-2
-    (λ c. search picks depth 20 fits 10000)  -- returns-3
+    (λ c. search picks depth 4)  -- returns
+    (λ c. search picks depth 4)  -- returns-2
+    (λ c. search picks depth 4)  -- returns-3
     )

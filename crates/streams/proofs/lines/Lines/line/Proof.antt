@@ -9,5 +9,5 @@ line-spec =
     (tie.spec
     (λ c κs. search needs)  -- part-requires
     (λ c κs. search needs)  -- part-requires-2
-    (λ c. search taking depth 20 fits 10000)  -- returns
+    (λ c. search taking depth 4)  -- returns
     )

@@ -9,7 +9,7 @@ passed-spec =
     (tie.spec
     (λ c. search needs)  -- sub-if2
     (λ c. search needs)  -- add-lines
-    (λ c. search passing depth 20 fits 10000)  -- returns
-    (λ c. search passing depth 20 fits 10000)  -- returns-2
-    (λ c. search passing depth 20 fits 10000)  -- returns-3
+    (λ c. search passing depth 4)  -- returns
+    (λ c. search passing depth 4)  -- returns-2
+    (λ c. search passing depth 4)  -- returns-3
     )

@@ -7,9 +7,9 @@ pub pulled-spec : {M : Type 1} → statement M
 pulled-spec =
     tie.close
     (tie.spec
-    (λ c. search pulls depth 20 fits 10000)  -- returns
-    (λ c. search pulls depth 20 fits 10000)  -- returns-2
+    (λ c. search pulls depth 4)  -- returns
+    (λ c. search pulls depth 4)  -- returns-2
     (λ c κs. search needs)  -- fill-requires
     (λ c. search needs)  -- same-length
-    (λ c. search pulls depth 20 fits 10000)  -- returns-3
+    (λ c. search pulls depth 4)  -- returns-3
     )
