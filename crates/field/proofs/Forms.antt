@@ -9,7 +9,6 @@ use Rattle.machine.specs.Lists.{pick, all, same, isSpace}
 use Rattle.format.specs.Fields.{Field, filled, optional, wellFormed, printable}
 use Rattle.format.specs.Tests.{Test}
 use Rattle.field.specs.Rows.{firstAnswer, fieldAnswer}
-use Rattle.field.proofs.Picks.{picks}
 
 -- what calls answered of the part p tells of the field
 module _ {p : List ℕ} {x : ℕ} (f : Field) (ts : List Test) (l : List ℕ) (d : p ≡ l) where
@@ -58,5 +57,3 @@ optional-filled w l d h e = e ∙ rw (← d, h)
 
 pub same-part : {p : List ℕ} {b v : Bool} (l t : List ℕ) → p ≡ l → b ≡ same p t → b ≡ v → same l t ≡ v
 same-part l t d e h = rw (← d) (sym e ∙ h)
-
-pub ruleset forms = (form-yes, form-no, form-stop, form-on, blank-prints, optional-filled, same-part, picks)

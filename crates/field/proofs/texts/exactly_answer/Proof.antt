@@ -1,5 +1,6 @@
 use borrow.Author.Needs.{needs}
-use Rattle.field.proofs.Forms.{forms}
+use Rattle.field.proofs.Forms.{form-stop, form-on, same-part}
+use Rattle.field.proofs.Picks.{pick-yes, pick-no}
 use Rattle.field.proofs.texts.exactly_answer.Statement.{statement}
 use Rattle.field.proofs.texts.exactly_answer.Tie as tie
 
@@ -8,9 +9,9 @@ exactly-answer-spec =
     tie.close
     (tie.spec
     (λ c κs. search needs)  -- filled-no-requires
-    (λ c. search forms depth 3 fits 10000)  -- returns
+    (λ c. search form-stop)  -- returns
     (λ c κs. search needs)  -- part-requires
     (λ c κs. search needs)  -- is-same-requires
-    (λ c. search forms depth 3 fits 10000)  -- returns-2
-    (λ c. search forms depth 3 fits 10000)  -- returns-3
+    (λ c. search (form-on, pick-yes, same-part) depth 3)  -- returns-2
+    (λ c. search (form-on, pick-no, same-part) depth 3)  -- returns-3
     )

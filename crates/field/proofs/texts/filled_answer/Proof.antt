@@ -1,5 +1,6 @@
 use borrow.Author.Needs.{needs}
-use Rattle.field.proofs.Forms.{forms}
+use Rattle.field.proofs.Forms.{form-yes, form-no}
+use Rattle.field.proofs.Picks.{told, both-are, first-fails, second-fails}
 use Rattle.field.proofs.texts.filled_answer.Statement.{statement}
 use Rattle.field.proofs.texts.filled_answer.Tie as tie
 
@@ -10,7 +11,7 @@ filled-answer-spec =
     (λ c κs. search needs)  -- part-requires
     (λ c κs. search needs)  -- is-printable-requires
     (λ c κs. search needs)  -- is-left-justified-requires
-    (λ c. search forms depth 3 fits 10000)  -- returns
-    (λ c. search forms depth 3 fits 10000)  -- returns-2
-    (λ c. search forms depth 3 fits 10000)  -- returns-3
+    (λ c. search (form-yes, both-are, told) depth 3)  -- returns
+    (λ c. search (form-no, second-fails, told) depth 3)  -- returns-2
+    (λ c. search (form-no, first-fails, told) depth 3)  -- returns-3
     )

@@ -1,5 +1,6 @@
 use borrow.Author.Needs.{needs}
-use Rattle.field.proofs.Forms.{forms}
+use Rattle.field.proofs.Forms.{form-yes, form-no}
+use Rattle.field.proofs.Picks.{told}
 use Rattle.field.proofs.texts.filler_answer.Statement.{statement}
 use Rattle.field.proofs.texts.filler_answer.Tie as tie
 
@@ -9,6 +10,6 @@ filler-answer-spec =
     (tie.spec
     (λ c κs. search needs)  -- part-requires
     (λ c κs. search needs)  -- is-blank-requires
-    (λ c. search forms depth 3 fits 10000)  -- returns
-    (λ c. search forms depth 3 fits 10000)  -- returns-2
+    (λ c. search (form-yes, told) depth 2)  -- returns
+    (λ c. search (form-no, told) depth 2)  -- returns-2
     )

@@ -1,5 +1,6 @@
 use borrow.Author.Needs.{needs}
-use Rattle.field.proofs.Forms.{forms}
+use Rattle.field.proofs.Forms.{form-yes, blank-prints, optional-filled}
+use Rattle.field.proofs.Picks.{told, both-are, first-holds}
 use Rattle.field.proofs.texts.optional_answer.Statement.{statement}
 use Rattle.field.proofs.texts.optional_answer.Tie as tie
 
@@ -9,7 +10,7 @@ optional-answer-spec =
     (tie.spec
     (λ c κs. search needs)  -- part-requires
     (λ c κs. search needs)  -- is-blank-requires
-    (λ c. search forms depth 3 fits 10000)  -- returns
+    (λ c. search (form-yes, both-are, blank-prints, first-holds, told) depth 4)  -- returns
     (λ c κs. search needs)  -- filled-no-requires
-    (λ c. search forms depth 3 fits 10000)  -- returns-2
+    (λ c. search (optional-filled, told) depth 2)  -- returns-2
     )
