@@ -79,5 +79,3 @@ module _ {r : Bool} (page : List ℕ) (at : ℕ) (key text : List ℕ) (e : r �
       = put-next page at (key ++ text) (10 ∷ []) (omega arith) d (x ∙ ap (λ m. putIn p m (10 ∷ [])) z) ∙ ap (placed page at) (append-assoc key text (10 ∷ [])) in
       let w : a + 1 ≡ at + length (lineOf key text) = omega arith in
       ap₂ (λ u v. (u, v)) g w ∙ rw (s, ← e, h) refl
-
-pub ruleset puts = (line-left, both-fit, end-fits, line-put, needs)

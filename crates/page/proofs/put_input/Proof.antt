@@ -1,5 +1,5 @@
 use borrow.Author.Needs.{needs}
-use Rattle.field.proofs.Picks.{picks}
+use Rattle.field.proofs.Picks.{pick-yes, pick-no}
 use Rattle.page.proofs.put_input.Statement.{statement}
 use Rattle.page.proofs.put_input.Tie as tie
 
@@ -10,6 +10,6 @@ put-input-spec =
     (λ c. search needs)  -- slice-aggregate-put-line
     (λ c κs. search needs)  -- put-line-requires
     (λ c. search needs)  -- same-length
-    (λ c. search picks depth 20 fits 10000)  -- returns
-    (λ c. search picks depth 20 fits 10000)  -- returns-2
+    (λ c. search pick-yes depth 1)  -- returns
+    (λ c. search pick-no depth 1)  -- returns-2
     )

@@ -1,5 +1,5 @@
 use borrow.Author.Needs.{needs}
-use Rattle.page.proofs.Placing.{puts}
+use Rattle.page.proofs.Placing.{line-left, both-fit, end-fits, line-put}
 use Rattle.page.proofs.put_line.Statement.{statement}
 use Rattle.page.proofs.put_line.Tie as tie
 
@@ -8,11 +8,11 @@ put-line-spec =
     tie.close
     (tie.spec
     (λ c κs. search needs)  -- has-room-requires
-    (λ c κs. search puts)  -- put-both-requires
+    (λ c κs. search both-fit)  -- put-both-requires
     (λ c. search needs)  -- slice-aggregate-put
     (λ c κs. search needs)  -- put-requires
-    (λ c. search puts depth 20 fits 10000)  -- add-result
+    (λ c. search (end-fits, needs))  -- add-result
     (λ c. search needs)  -- same-length
-    (λ c. search puts depth 20 fits 10000)  -- returns
-    (λ c. search puts depth 20 fits 10000)  -- returns-2
+    (λ c. search line-put depth 1)  -- returns
+    (λ c. search line-left depth 1)  -- returns-2
     )
