@@ -1,5 +1,5 @@
 use borrow.Author.Needs.{needs}
-use Rattle.field.proofs.Picks.{picks}
+use Rattle.field.proofs.Picks.{pick-yes, pick-no}
 use Rattle.record.proofs.faults.batch_identification_answer.Statement.{statement}
 use Rattle.record.proofs.faults.batch_identification_answer.Tie as tie
 
@@ -9,6 +9,6 @@ batch-identification-answer-spec =
     (tie.spec
     (λ c κs. search needs)  -- filled-no-requires
     (λ c κs. search needs)  -- filler-no-requires
-    (λ c. search picks depth 20 fits 10000)  -- returns
-    (λ c. search picks depth 20 fits 10000)  -- returns-2
+    (λ c. search pick-yes depth 1)  -- returns
+    (λ c. search pick-no depth 1)  -- returns-2
     )

@@ -1,5 +1,6 @@
 use borrow.Author.Needs.{needs}
-use Rattle.field.proofs.Forms.{forms}
+use Rattle.field.proofs.Forms.{same-part}
+use Rattle.field.proofs.Picks.{pick-yes, pick-no}
 use Rattle.record.proofs.types.group_in.Statement.{statement}
 use Rattle.record.proofs.types.group_in.Tie as tie
 
@@ -10,6 +11,6 @@ group-in-spec =
     (λ c κs. search needs)  -- part-requires
     (λ c. search needs)  -- slice-aggregate-is-same
     (λ c κs. search needs)  -- is-same-requires
-    (λ c. search forms depth 20 fits 10000)  -- returns
-    (λ c. search forms depth 20 fits 10000)  -- returns-2
+    (λ c. search (pick-yes, same-part) depth 2)  -- returns
+    (λ c. search (pick-no, same-part) depth 2)  -- returns-2
     )
