@@ -68,7 +68,8 @@ module _ {r : Bool} (page : List ℕ) (at : ℕ) (key text : List ℕ) (e : r �
   pub end-fits : {a : ℕ} → r ≡ true → a ≡ at + (length key + length text) → Fits w64 (length page) → Fits w64 (a + 1)
   end-fits h f g = let k = room h in omega arith
 
-  pub line-put : {p l : List ℕ} {a : ℕ} → r ≡ true → a ≡ at + (length key + length text) → p ≡ placed page at (key ++ text) → l ≡ putIn p a (10 ∷ []) → (l, a + 1) ≡ withText (page, at) (lineOf key text)
+  -- (under `Unit` a `search` does not look for p in the last premise, in which it would end at a limit)
+  pub line-put : {p l : List ℕ} {a : ℕ} → r ≡ true → a ≡ at + (length key + length text) → p ≡ placed page at (key ++ text) → (Unit {0} → l ≡ putIn p a (10 ∷ [])) → (l, a + 1) ≡ withText (page, at) (lineOf key text)
   unfolding withText pick
   line-put {p} {l} {a} h f d x =
       let k = room h in
@@ -76,6 +77,6 @@ module _ {r : Bool} (page : List ℕ) (at : ℕ) (key text : List ℕ) (e : r �
       let n = length-append key text in
       let z : a ≡ at + length (key ++ text) = omega arith in
       let g : l ≡ placed page at (lineOf key text)
-      = put-next page at (key ++ text) (10 ∷ []) (omega arith) d (x ∙ ap (λ m. putIn p m (10 ∷ [])) z) ∙ ap (placed page at) (append-assoc key text (10 ∷ [])) in
+      = put-next page at (key ++ text) (10 ∷ []) (omega arith) d (x tt ∙ ap (λ m. putIn p m (10 ∷ [])) z) ∙ ap (placed page at) (append-assoc key text (10 ∷ [])) in
       let w : a + 1 ≡ at + length (lineOf key text) = omega arith in
       ap₂ (λ u v. (u, v)) g w ∙ rw (s, ← e, h) refl
