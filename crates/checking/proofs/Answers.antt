@@ -8,6 +8,7 @@ use Rattle.reading.specs.Step.{stepAt}
 use Rattle.reading.specs.declared.State.{State}
 use Rattle.reading.specs.declared.LineRead.{LineRead}
 use Rattle.theorem.specs.Reached.{Reached, at-start, one-step}
+use Rattle.streams.specs.Taking.{nextLine}
 use Rattle.streams.specs.declared.lines.Lines.{Lines}
 use Rattle.checking.specs.Answered.{Answered}
 use Rattle.checking.specs.declared.Checked.{Checked}
@@ -15,20 +16,21 @@ use Rattle.checking.specs.declared.Checked.{Checked}
 abbrev checkedBy : LineRead → Lines → Checked
 checkedBy r l = record { answer = r .answer; line = r .line; column = r .column; state = r .next; lines = l }
 
-pub answered-by : {r : LineRead} (l : Lines) (s : State) (bytes : List ℕ) → Reached s → r ≡ stepAt s bytes → Answered (checkedBy r l)
-answered-by l s bytes h e =
+pub answered-by : {r : LineRead} {buffer : List ℕ} (l : Lines) (s : State) (bytes : List ℕ) → Reached s → bytes ≡ nextLine l buffer → r ≡ stepAt s bytes → Answered (checkedBy r l) buffer
+answered-by l s bytes h n e =
     record {
       before = s;
       bytes = bytes;
       run = h;
+      next = n;
       answer = ap (λ (x : LineRead). x .answer) e;
       line = ap (λ (x : LineRead). x .line) e;
       column = ap (λ (x : LineRead). x .column) e;
       state = ap (λ (x : LineRead). x .next) e;
     }
 
-pub reached-after : (c : Checked) → Answered c → Reached (c .state)
-reached-after c a = subst⁻¹ Reached (a .state) (one-step (a .bytes) (a .run))
+pub reached-after : (c : Checked) (buffer : List ℕ) → Answered c buffer → Reached (c .state)
+reached-after c buffer a = subst⁻¹ Reached (a .state) (one-step (a .bytes) (a .run))
 
 pub reached-first : {s : State} → s ≡ startState → Reached s
 reached-first e = subst⁻¹ Reached e at-start

@@ -5,13 +5,15 @@ use mathlib.Core.List.{List}
 use Rattle.reading.specs.Step.{stepAt}
 use Rattle.reading.specs.declared.State.{State}
 use Rattle.theorem.specs.Reached.{Reached}
+use Rattle.streams.specs.Taking.{nextLine}
 use Rattle.checking.specs.declared.Checked.{Checked}
 
--- its answer is that of some bytes after a run of the reader, and its state the one after them
-pub record Answered (c : Checked) : Type 0 where
+-- after a run of the reader its answer is that of the next line of the buffer, which is empty at the input's end, and its state the one after it
+pub record Answered (c : Checked) (buffer : List ℕ) : Type 0 where
   pub before : State
   pub bytes : List ℕ
   pub run : Reached before
+  pub next : bytes ≡ nextLine (c .lines) buffer
   pub answer : c .answer ≡ stepAt before bytes .answer
   pub line : c .line ≡ stepAt before bytes .line
   pub column : c .column ≡ stepAt before bytes .column

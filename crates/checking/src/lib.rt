@@ -13,11 +13,12 @@ pub struct Checked {
     pub lines: Lines,
 }
 
-fn answered(state: State, bytes: &[u8], lines: Lines) -> Checked
+// The next line of the buffer, or the end where none is left.
+fn answered(state: State, lines: Lines, buffer: &[u8]) -> Checked
     requires { ⌜ Reached state ⌝ }
-    ensures { λ r. ⌜ Answered r ⌝ }
+    ensures { λ r. ⌜ Answered r (now (buffer .entry)) ⌝ }
 {
-    let r = state.line(bytes);
+    let r = state.line(lines.line(buffer));
     let next = r.next;
     Checked {
         answer: r.answer,
@@ -29,24 +30,23 @@ fn answered(state: State, bytes: &[u8], lines: Lines) -> Checked
 }
 
 impl Checked {
-    // The next line of the buffer, or the end where none is left.
+    // The line after one that was accepted.
     fn next(self, lines: Lines, buffer: &[u8]) -> Checked
-        requires { ⌜ Answered self ⌝ }
-        ensures { λ r. ⌜ Answered r ⌝ }
+        requires { ⌜ Reached (self .state) ⌝ }
+        ensures { λ r. ⌜ Answered r (now (buffer .entry)) ⌝ }
     {
         let state = self.state;
-        answered(state, lines.line(buffer), lines)
+        answered(state, lines, buffer)
     }
 }
 
 // Checks an input up to the first line that is refused, or its end. (A proved loop has to end, so this one counts its turns down from a
 // number that no run uses up.)
 pub fn check(fd: i32, name: &[u8], buffer: &mut [u8]) -> Checked
-    ensures { λ r. ⌜ Answered r ⌝ }
+    ensures { λ r. ⌜ Answered r (now (buffer .exit)) ⌝ }
 {
-    let start = Lines::start();
-    let mut checked = answered(State::start(), b"", start);
-    let mut lines = start;
+    let mut lines = Lines::start();
+    let mut checked = answered(State::start(), lines, buffer);
     let mut turns = u64::MAX;
     while 0 < turns {
         lines = lines.pulled(fd, name, buffer);

@@ -14,15 +14,19 @@ use streams::Source;
 use telling::put_name;
 use writer::Entry;
 
+// Where output cannot be written, nothing more is: a whole file after half a one would look like one file.
+const NO_MORE: u8 = 3;
+
 // A file so far: the answer to the last line, the reader's state after it and the writer's, how much of the page is filled, whether it
-// was the last line, and whether all was read and written.
+// was the last line, and whether all was read and all was written.
 struct Copied {
     answer: u8,
     reader: State,
     writer: State,
     at: usize,
     ended: bool,
-    done: bool,
+    read: bool,
+    written: bool,
 }
 
 // The record to write of a record that was read: none of a city.
@@ -124,9 +128,8 @@ fn copy_line(before: Copied, rest: &[u8], page: &mut [u8]) -> Copied {
 fn make_room(before: Copied, page: &[u8]) -> Copied {
     let mut copied = before;
     if copied.ended | (page.len() <= copied.at) {
-        let written = streams::told(io::write_all(STDOUT_FILENO, part(page, 0, copied.at)));
-        copied.done = copied.done & written;
-        copied.ended = copied.ended | !written;
+        copied.written = streams::told(io::write_all(STDOUT_FILENO, part(page, 0, copied.at)));
+        copied.ended = copied.ended | !copied.written;
         copied.at = 0;
     }
     copied
@@ -136,7 +139,7 @@ fn make_room(before: Copied, page: &[u8]) -> Copied {
 fn copy_next(before: Copied, rest: &[u8], failed: bool, page: &mut [u8]) -> Copied {
     let mut copied = copy_line(before, rest, page);
     copied.ended = (copied.answer != 0) | (rest.len() == 0);
-    copied.done = !failed;
+    copied.read = !failed;
     make_room(copied, page)
 }
 
@@ -167,7 +170,8 @@ fn unwritten() -> Copied {
         writer,
         at: 0,
         ended: false,
-        done: true,
+        read: true,
+        written: true,
     }
 }
 
@@ -187,16 +191,19 @@ fn tell_changed(name: &[u8]) {
     io::write_all(STDERR_FILENO, part(&page, 0, b));
 }
 
-// The second reading of an accepted file, and whether all of it was written.
-fn is_copied(source: Source, name: &[u8], page: &mut [u8]) -> bool {
+// The second reading of an accepted file.
+fn copy_again(source: Source, name: &[u8], page: &mut [u8]) -> u8 {
     let lines = streams::again(source, name);
     let copied = copy_lines(lines, source.fd, name, page);
-    if copied.done {
+    if !copied.written {
+        return NO_MORE;
+    }
+    if copied.read {
         if copied.answer != 0 {
             tell_changed(name);
         }
     }
-    copied.done & (copied.answer == 0)
+    streams::status_of(0, copied.read & (copied.answer == 0))
 }
 
 // A file that can be read twice.
@@ -209,7 +216,7 @@ fn copy_source(source: Source, name: &[u8], several: bool, page: &mut [u8]) -> u
     if checked.answer != 0 {
         return streams::status_of(checked.answer, is_told(checked, name, several));
     }
-    streams::status_of(0, is_copied(source, name, page))
+    copy_again(source, name, page)
 }
 
 fn copy_file(fd: i32, name: &[u8], several: bool, page: &mut [u8]) -> u8 {
@@ -237,6 +244,14 @@ fn copy_input(i: usize, several: bool, page: &mut [u8]) -> u8 {
     status
 }
 
+// The next file, where output can still be written.
+fn copy_next_input(i: usize, before: u8, several: bool, page: &mut [u8]) -> u8 {
+    if before == NO_MORE {
+        return before;
+    }
+    streams::worse(before, copy_input(i, several, page))
+}
+
 fn main() {
     let mut page = [0u8; 65520];
     let arguments = os::arg_count();
@@ -244,7 +259,7 @@ fn main() {
     let mut status = copy_input(1, several, &mut page);
     let mut i = 2;
     while i < arguments {
-        status = streams::worse(status, copy_input(i, several, &mut page));
+        status = copy_next_input(i, status, several, &mut page);
         i += 1;
     }
     streams::end_with(status);

@@ -55,7 +55,12 @@ fn spool(fd: i32, name: &[u8], to: i32) -> bool {
     false
 }
 
+// An input that cannot go back, in a temporary file; where it is no such input but cannot be read at all, that is told.
 fn spooled(fd: i32, name: &[u8]) -> i32 {
+    if os::errno() != libc::ESPIPE {
+        crate::tell(name);
+        return -1;
+    }
     let to = temporary();
     if to < 0 {
         return to;

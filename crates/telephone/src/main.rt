@@ -145,14 +145,6 @@ fn shown(answer: u8, line: &[u8]) -> LineShown {
     LineShown { code, text, count }
 }
 
-// Which field it is, where the line's record is one of 01's; every other is refused at its code.
-fn put_field_in(page: &mut [u8], at: usize, code: Code, column: u8) -> usize {
-    match code {
-        Code::Of(kind) => put_field(page, at, kind, column),
-        Code::Unknown => put_text(page, at, b"code and variant"),
-    }
-}
-
 fn put_place(page: &mut [u8], at: usize, line: u64, column: u8, code: Code) -> usize {
     let a = put_text(page, at, b": line ");
     let b = put_digits(page, a, line);
@@ -162,7 +154,7 @@ fn put_place(page: &mut [u8], at: usize, line: u64, column: u8, code: Code) -> u
     let c = put_text(page, b, b", column ");
     let d = put_digits(page, c, column as u64);
     let e = put_text(page, d, b", ");
-    put_field_in(page, e, code, column)
+    put_field(page, e, code, column)
 }
 
 // How a line is broken, where it is.

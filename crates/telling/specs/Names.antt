@@ -7,6 +7,8 @@ use lib.Dec.{eqb}
 use Rattle.machine.specs.Lists.{pick}
 use Rattle.format.specs.Fields.{Field, width}
 use Rattle.format.specs.Records.{layout}
+use Rattle.format.specs.declared.Code.{Code}
+use Rattle.format.specs.declared.Code.the-variants.{Of, Unknown}
 use Rattle.format.specs.declared.Kind.{Kind}
 use Rattle.format.specs.declared.Kind.the-variants.{FileHeader, BatchHeaderB, BatchHeaderC, FixedDescription, OrderingParty, Transaction, NamePayer, CityPayer, PaymentReference, Description, NameBeneficiary, CityBeneficiary, BatchTrailer, FileTrailer}
 use Rattle.machine.specs.Texts.{characters}
@@ -40,9 +42,14 @@ nameFrom c (f ∷ fs) (n ∷ ns) column = pick (eqb column c) (characters n) (na
 abbrev pub nameIn : Kind → ℕ → List ℕ
 nameIn k column = nameFrom 6 (layout k) (names k) column
 
+-- of a record that is not in the table nothing but its code is known
+abbrev pub nameAfter : Code → ℕ → List ℕ
+nameAfter (Of k) column = nameIn k column
+nameAfter Unknown column = []
+
 -- THE NAME of the field that a refusal's column names
-unfoldable pub fieldName : Kind → ℕ → List ℕ
-fieldName k column = pick (eqb column 1) (characters "code and variant") (nameIn k column)
+unfoldable pub fieldName : Code → ℕ → List ℕ
+fieldName c column = pick (eqb column 1) (characters "code and variant") (nameAfter c column)
 
 -- THE NAME of an input, which is empty for standard input
 unfoldable pub inputName : List ℕ → List ℕ

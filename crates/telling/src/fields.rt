@@ -6,7 +6,8 @@ ghost use Rattle.machine.specs.Lists.{pick};
 ghost use Rattle.format.specs.declared.Kind.the-variants.{FileHeader, BatchHeaderB, OrderingParty, Transaction, BatchTrailer};
 ghost use Rattle.page.specs.Lines.{withText};
 ghost use Rattle.machine.specs.Texts.{characters};
-ghost use Rattle.telling.specs.Names.{nameIn, fieldName};
+ghost use Rattle.telling.specs.Names.{nameIn, nameAfter, fieldName};
+use format::Code;
 use format::Kind;
 use page::put_text;
 
@@ -136,12 +137,21 @@ fn put_in(page: &mut [u8], at: usize, kind: Kind, column: u8) -> usize
     }
 }
 
+fn put_after(page: &mut [u8], at: usize, code: Code, column: u8) -> usize
+    ensures { λ r. ⌜ (now (page .exit), r) ≡ withText (now (page .entry), at) (nameAfter code column) ⌝ }
+{
+    match code {
+        Code::Of(kind) => put_in(page, at, kind, column),
+        Code::Unknown => put_text(page, at, b""),
+    }
+}
+
 // The name of the field of that record that begins at a column onto a page, and nothing where none begins.
-pub fn put_field(page: &mut [u8], at: usize, kind: Kind, column: u8) -> usize
-    ensures { λ r. ⌜ (now (page .exit), r) ≡ withText (now (page .entry), at) (fieldName kind column) ⌝ }
+pub fn put_field(page: &mut [u8], at: usize, code: Code, column: u8) -> usize
+    ensures { λ r. ⌜ (now (page .exit), r) ≡ withText (now (page .entry), at) (fieldName code column) ⌝ }
 {
     if column == 1 {
         return put_text(page, at, b"code and variant");
     }
-    put_in(page, at, kind, column)
+    put_after(page, at, code, column)
 }

@@ -1,8 +1,8 @@
 // What the operator tells the sender: the words of an answer, and the name of the field that its column names.
 ghost use mathlib.Core.Path.{_≡_};
-ghost use mathlib.Core.List.{[]};
+ghost use lib.ListN.{drop};
 ghost use Rattle.page.specs.Lines.{withText};
-ghost use Rattle.telling.specs.Words.{ofFields, ofCallers, wordsBy, wordsOf};
+ghost use Rattle.telling.specs.Words.{words, wordsBy, wordsOf};
 use page::put_text;
 
 mod fields;
@@ -11,12 +11,12 @@ mod inputs;
 pub use fields::put_field;
 pub use inputs::put_name;
 
-// The answers that only callers of the library meet, and acceptance.
-fn put_words_of_callers(page: &mut [u8], at: usize, answer: u8) -> usize
-    ensures { λ r. ⌜ (now (page .exit), r) ≡ withText (now (page .entry), at) (wordsBy ofCallers [] answer) ⌝ }
+// The table's rows from 11 on.
+fn put_words_from_11(page: &mut [u8], at: usize, answer: u8) -> usize
+    ensures { λ r. ⌜ (now (page .exit), r) ≡ withText (now (page .entry), at) (wordsBy (drop 10 words) answer) ⌝ }
 {
-    if answer == format::ACCEPTED {
-        return put_text(page, at, b"accepted");
+    if answer == format::AFTER_TRAILER {
+        return put_text(page, at, b"there is something after the file trailer");
     }
     if answer == format::NO_ROOM {
         return put_text(page, at, b"the room lent is too small");
@@ -31,27 +31,16 @@ fn put_words_of_callers(page: &mut [u8], at: usize, answer: u8) -> usize
             b"the state handed in is none that a file leads to",
         );
     }
+    if answer == format::ACCEPTED {
+        return put_text(page, at, b"accepted");
+    }
     put_text(page, at, b"")
 }
 
-// The answers that name a field.
-fn put_words_of_fields(page: &mut [u8], at: usize, answer: u8) -> usize
-    ensures { λ r. ⌜ (now (page .exit), r) ≡ withText (now (page .entry), at) (wordsBy ofFields (wordsBy ofCallers [] answer) answer) ⌝ }
+// Those from 6 on.
+fn put_words_from_6(page: &mut [u8], at: usize, answer: u8) -> usize
+    ensures { λ r. ⌜ (now (page .exit), r) ≡ withText (now (page .entry), at) (wordsBy (drop 5 words) answer) ⌝ }
 {
-    if answer == format::WRONG_FORM {
-        return put_text(
-            page,
-            at,
-            b"the form is wrong: a letter in a number, a strange character, a space first, blank, or not blank",
-        );
-    }
-    if answer == format::WRONG_VALUE {
-        return put_text(
-            page,
-            at,
-            b"the value is not allowed: no such date or type, zero, or above its maximum",
-        );
-    }
     if answer == format::WRONG_ACCOUNT {
         return put_text(
             page,
@@ -76,7 +65,10 @@ fn put_words_of_fields(page: &mut [u8], at: usize, answer: u8) -> usize
     if answer == format::WRONG_TRAILER {
         return put_text(page, at, b"the trailer's number is wrong");
     }
-    put_words_of_callers(page, at, answer)
+    if answer == format::ENDS_EARLY {
+        return put_text(page, at, b"the file ends before its file trailer");
+    }
+    put_words_from_11(page, at, answer)
 }
 
 // The words of an answer onto a page, and nothing of a number that is no answer's.
@@ -96,11 +88,19 @@ pub fn put_words(page: &mut [u8], at: usize, answer: u8) -> usize
             b"this record may not stand here, or a name record is missing before it",
         );
     }
-    if answer == format::ENDS_EARLY {
-        return put_text(page, at, b"the file ends before its file trailer");
+    if answer == format::WRONG_FORM {
+        return put_text(
+            page,
+            at,
+            b"the form is wrong: a letter in a number, a strange character, a space first, blank, or not blank",
+        );
     }
-    if answer == format::AFTER_TRAILER {
-        return put_text(page, at, b"there is something after the file trailer");
+    if answer == format::WRONG_VALUE {
+        return put_text(
+            page,
+            at,
+            b"the value is not allowed: no such date or type, zero, or above its maximum",
+        );
     }
-    put_words_of_fields(page, at, answer)
+    put_words_from_6(page, at, answer)
 }

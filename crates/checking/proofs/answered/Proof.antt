@@ -8,5 +8,6 @@ answered-spec =
     tie.close
     (tie.spec
     (λ c κs. search needs)  -- line-requires
+    (λ c κs. search needs)  -- line-requires-2
     (λ c. search answers depth 20 fits 10000)  -- returns
     )

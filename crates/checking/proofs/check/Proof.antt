@@ -7,10 +7,10 @@ use Rattle.checking.proofs.check.Statement.{statement}
 use Rattle.checking.proofs.check.Tie as tie
 
 abbrev Inv-loop : tie.InvT-loop
-Inv-loop fd name buffer₀ checked₀ lines₀ turns₀ buffer checked lines turns = (length buffer ≡ length buffer₀) × Answered checked
+Inv-loop fd name buffer₀ lines₀ checked₀ turns₀ buffer lines checked turns = (length buffer ≡ length buffer₀) × Answered checked buffer
 
 abbrev μ-loop : tie.MeasureT-loop
-μ-loop fd name buffer₀ checked₀ lines₀ turns₀ buffer checked lines turns = turns
+μ-loop fd name buffer₀ lines₀ checked₀ turns₀ buffer lines checked turns = turns
 
 pub check-spec : {M : Type 1} → statement M
 check-spec =
@@ -20,11 +20,10 @@ check-spec =
     μ-loop
     (λ c κs. search needs)  -- start-requires
     (λ c κs. search needs)  -- start-requires-2
-    (λ c. search needs)  -- slice-aggregate-answered
     (λ c κs. search answers depth 20 fits 10000)  -- answered-requires
-    (λ c. search answers depth 20 fits 10000)  -- loop-holds
+    (λ c. (search needs, search answers depth 20 fits 10000))  -- loop-holds
     (λ c κs. search needs)  -- pulled-requires
-    (λ c κs. search needs)  -- next-requires
+    (λ c κs. search answers depth 20 fits 10000)  -- next-requires
     (λ c. search needs)  -- same-length
     (λ c. search answers depth 20 fits 10000)  -- returns
     (λ c. search needs)  -- same-length-2

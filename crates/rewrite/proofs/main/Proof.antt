@@ -21,9 +21,8 @@ main-spec =
     (λ c. search needs)  -- slice-aggregate-copy-input
     (λ c κs. search needs)  -- copy-input-requires
     (λ c. search needs)  -- loop-holds
-    (λ c. search needs)  -- slice-aggregate-copy-input-2
-    (λ c κs. search needs)  -- copy-input-requires-2
-    (λ c κs. search needs)  -- worse-requires
+    (λ c. search needs)  -- slice-aggregate-copy-next-input
+    (λ c κs. search needs)  -- copy-next-input-requires
     (λ c. search needs)  -- add-i
     (λ c. search needs)  -- loop-less
     (λ c. search needs)  -- loop-again

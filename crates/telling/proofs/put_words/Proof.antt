@@ -29,7 +29,7 @@ put-words-spec =
     (λ c κs. search needs)  -- put-text-requires-5
     (λ c. search needs)  -- same-length-5
     (λ c. search tells depth 20 fits 10000)  -- returns-5
-    (λ c κs. search needs)  -- put-words-of-fields-requires
+    (λ c κs. search needs)  -- put-words-from-6-requires
     (λ c. search needs)  -- same-length-6
     (λ c. search tells depth 20 fits 10000)  -- returns-6
     )

@@ -1,10 +1,10 @@
 use borrow.Author.Needs.{needs}
 use Rattle.telling.proofs.Telling.{tells}
-use Rattle.telling.proofs.put_words_of_fields.Statement.{statement}
-use Rattle.telling.proofs.put_words_of_fields.Tie as tie
+use Rattle.telling.proofs.put_words_from_11.Statement.{statement}
+use Rattle.telling.proofs.put_words_from_11.Tie as tie
 
-pub put-words-of-fields-spec : {M : Type 1} → statement M
-put-words-of-fields-spec =
+pub put-words-from-11-spec : {M : Type 1} → statement M
+put-words-from-11-spec =
     tie.close
     (tie.spec
     (λ c. search needs)  -- slice-aggregate-put-text
@@ -31,7 +31,4 @@ put-words-of-fields-spec =
     (λ c κs. search needs)  -- put-text-requires-6
     (λ c. search needs)  -- same-length-6
     (λ c. search tells depth 20 fits 10000)  -- returns-6
-    (λ c κs. search needs)  -- put-words-of-callers-requires
-    (λ c. search needs)  -- same-length-7
-    (λ c. search tells depth 20 fits 10000)  -- returns-7
     )

@@ -1,10 +1,10 @@
 use borrow.Author.Needs.{needs}
 use Rattle.telling.proofs.Telling.{tells}
-use Rattle.telling.proofs.put_words_of_callers.Statement.{statement}
-use Rattle.telling.proofs.put_words_of_callers.Tie as tie
+use Rattle.telling.proofs.put_words_from_6.Statement.{statement}
+use Rattle.telling.proofs.put_words_from_6.Tie as tie
 
-pub put-words-of-callers-spec : {M : Type 1} → statement M
-put-words-of-callers-spec =
+pub put-words-from-6-spec : {M : Type 1} → statement M
+put-words-from-6-spec =
     tie.close
     (tie.spec
     (λ c. search needs)  -- slice-aggregate-put-text
@@ -27,4 +27,7 @@ put-words-of-callers-spec =
     (λ c κs. search needs)  -- put-text-requires-5
     (λ c. search needs)  -- same-length-5
     (λ c. search tells depth 20 fits 10000)  -- returns-5
+    (λ c κs. search needs)  -- put-words-from-11-requires
+    (λ c. search needs)  -- same-length-6
+    (λ c. search tells depth 20 fits 10000)  -- returns-6
     )
