@@ -10,13 +10,13 @@ use Rattle.format.specs.Language.{Item, Batch, File, crlf, endBytes}
 use Rattle.format.specs.declared.Group.the-variants.{Payments}
 
 -- so many characters of a text, filled with spaces
-abbrev pub filledTo : ℕ → String → List ℕ
-filledTo w t = take w (characters t ++ spaces w)
+abbrev pub paddedTo : ℕ → String → List ℕ
+paddedTo w t = take w (characters t ++ spaces w)
 
 -- lines of 50 characters with their ends
 abbrev pub textLines : List String → List ℕ
 textLines [] = []
-textLines (t ∷ ts) = filledTo 50 t ++ (endBytes crlf ++ textLines ts)
+textLines (t ∷ ts) = paddedTo 50 t ++ (endBytes crlf ++ textLines ts)
 
 abbrev pub example : List ℕ
 example =
@@ -44,7 +44,7 @@ uncheckedSalary =
       beneficiary = 1234;
       reference = none;
       descriptions = [];
-      name = some (record { text = filledTo 35 "J DE VRIES"; city = none });
+      name = some (record { text = paddedTo 35 "J DE VRIES"; city = none });
     }
 
 abbrev pub exampleBatch : Batch
@@ -53,7 +53,7 @@ exampleBatch =
       account = 123456789;
       sequence = 1;
       identification = none;
-      fixed = filledTo 32 "SALARIS MAART" ∷ [];
+      fixed = paddedTo 32 "SALARIS MAART" ∷ [];
       nameCode = 1;
       desired = 0;
       party = spaces 35;
