@@ -7,7 +7,7 @@ use Rattle.reading.specs.State.{startState}
 use Rattle.reading.specs.Step.{stepAt}
 use Rattle.reading.specs.declared.State.{State}
 use Rattle.reading.specs.declared.LineRead.{LineRead}
-use Rattle.theorem.specs.Reached.{Reached, at-start, one-step}
+use Rattle.file.specs.Reached.{Reached, at-start, one-step}
 use Rattle.streams.specs.Taking.{nextLine}
 use Rattle.streams.specs.declared.lines.Lines.{Lines}
 use Rattle.checking.specs.Answered.{Answered}

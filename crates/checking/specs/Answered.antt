@@ -4,7 +4,7 @@ use mathlib.Core.Path.{_≡_}
 use mathlib.Core.List.{List}
 use Rattle.reading.specs.Step.{stepAt}
 use Rattle.reading.specs.declared.State.{State}
-use Rattle.theorem.specs.Reached.{Reached}
+use Rattle.file.specs.Reached.{Reached}
 use Rattle.streams.specs.Taking.{nextLine}
 use Rattle.checking.specs.declared.Checked.{Checked}
 

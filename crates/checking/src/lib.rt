@@ -1,6 +1,6 @@
 // An input checked line by line, for the programs: files of any length in constant memory.
 ghost use Rattle.checking.specs.Answered.{Answered};
-ghost use Rattle.theorem.specs.Reached.{Reached};
+ghost use Rattle.file.specs.Reached.{Reached};
 use reading::State;
 use streams::Lines;
 

@@ -10,13 +10,13 @@ use lib.Dec.{eqb}
 use Rattle.machine.specs.Lists.{pick}
 use Rattle.reading.specs.State.{startState, within}
 use Rattle.reading.specs.Step.{isDone, refusalLine, nothingRead, endedAt}
-use Rattle.reading.specs.Check.{linesOf, answerOf, checkOf}
+use Rattle.reading.specs.Check.{linesOf, answerOf, checkOf, restOf}
 use Rattle.reading.specs.declared.State.{State}
 use Rattle.reading.specs.declared.Judged.{Judged}
 use Rattle.reading.specs.declared.Answer.{Answer}
 use Rattle.reading.proofs.Limits.{within-line}
-use Rattle.reading.proofs.Answers.{file-named}
-use Rattle.theorem.specs.Meaning.{answer, Means}
+use Rattle.reading.proofs.Answers.{rest-named}
+use Rattle.file.specs.Meaning.{answer, Means}
 use Rattle.clieop_c.specs.Returned.{packed, unpacked}
 
 -- WHAT WAS PACKED IS READ BACK
@@ -54,10 +54,10 @@ judged-line : (file : List ℕ) (j : Judged) (q : Bool) → j ≡ linesOf startS
     → pick q (answerOf (endedAt (j .next))) (record { number = j .number; line = refusalLine (j .number) (j .next .line); column = j .column }) .line ≤ 6999369996
 unfolding pick endedAt
 judged-line file j true e h = ended-line (j .next) (within (j .next)) (isDone (j .next)) refl
-judged-line file j false e h = file-named file refl e (eqb-false (j .number) 0 h)
+judged-line file j false e h = rest-named startState file e (eqb-false (j .number) 0 h)
 
 pub check-line : (file : List ℕ) → checkOf file .line ≤ 6999369996
-unfolding checkOf
+unfolding checkOf restOf
 check-line file = judged-line file (linesOf startState file) (eqb (linesOf startState file .number) 0) refl refl
 
 -- ## The answer of a file

@@ -12,7 +12,7 @@ use Rattle.format.specs.declared.TransactionType.{TransactionType}
 use Rattle.format.specs.declared.TypeRead.{TypeRead}
 use Rattle.format.specs.declared.TypeRead.the-variants.{Of, NoType}
 use Rattle.reading.specs.declared.Answer.{Answer}
-use Rattle.theorem.specs.Meaning.{answer}
+use Rattle.file.specs.Meaning.{answer}
 use Rattle.rewriting.specs.Rewriting.{told}
 use Rattle.rewriting.specs.declared.Rewritten.{Rewritten}
 use Rattle.items.specs.Search.{noFields}

@@ -4,7 +4,7 @@ ghost use mathlib.Core.Path.{_≡_};
 ghost use Prim.Native.Nat.{_≤_};
 ghost use lib.ListN.{length};
 ghost use Rattle.reading.specs.Check.{checkOf};
-ghost use Rattle.theorem.specs.Meaning.{Means};
+ghost use Rattle.file.specs.Meaning.{Means};
 ghost use Rattle.rewriting.specs.Rewriting.{rewrittenOf, roomAfter};
 ghost use Rattle.rewriting.specs.Promises.{Promised};
 ghost use Rattle.clieop_c.specs.Returned.{packed, unpacked, rewriteAnswer, writtenAfter, rewriteFound};

@@ -1,1 +1,11 @@
-pub mod Meanings
+pub mod Places
+pub mod Faults
+pub mod Lines
+pub mod Reach
+pub mod Reached
+pub mod Run
+pub mod Counted
+pub mod Meaning
+pub mod Longest
+pub mod Example
+pub mod Cases

@@ -1,8 +1,9 @@
-// What callers ask of a whole file.
+// What callers ask of a whole file; what its answer means, and 01's worked cases (specs/, proofs/).
 ghost use mathlib.Core.Path.{_≡_};
 ghost use Rattle.reading.specs.Check.{checkOf};
-ghost use Rattle.theorem.specs.Meaning.{Means};
+ghost use Rattle.file.specs.Meaning.{Means};
 use reading::Answer;
+use reading::State;
 
 // The answer of a file, with its line and column; and what that answer means: accepted exactly when the bytes are a file of the language, which
 // then has one reading, where each item is counted in one trailer; and for a refusal that the lines before the named one can be completed and with it cannot.
@@ -10,5 +11,6 @@ pub fn check(file: &[u8]) -> Answer
     ensures answer { λ r. ⌜ r ≡ checkOf (now (file .entry)) ⌝ }
     ensures meaning { λ r. ⌜ Means (now (file .entry)) r ⌝ }
 {
-    reading::check(file)
+    let start = State::start();
+    start.rest(file)
 }

@@ -23,7 +23,7 @@ use Rattle.record.specs.declared.TransactionFields.{TransactionFields}
 use Rattle.reading.specs.Check.{checkOf}
 use Rattle.reading.specs.declared.Answer.{Answer}
 use Rattle.reading.proofs.Judgements.{four-at-most}
-use Rattle.theorem.proofs.Meaning.{means}
+use Rattle.file.proofs.Meaning.{means}
 use Rattle.descriptions.specs.Texts.{noTexts, inPlaces, merged, textFrom}
 use Rattle.descriptions.specs.declared.Descriptions.{Descriptions}
 use Rattle.descriptions.proofs.Lists.{Full, full-more, with-places, merged-places}

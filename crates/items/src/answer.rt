@@ -105,7 +105,7 @@ pub fn item(file: &[u8], batch: u64, item: u64, out: &mut [u8]) -> ItemRead
     ensures bytes { λ _. ⌜ now (out .exit) ≡ roomAfter (now (file .entry)) batch item (now (out .entry)) ⌝ }
     ensures meaning { λ r. ⌜ Promised (now (file .entry)) batch item (now (out .entry)) r (now (out .exit)) ⌝ }
 {
-    let answer = reading::check(file);
+    let answer = file::check(file);
     let search = Search::start(batch, item);
     let after = search.lines(file);
     after.told(answer, out)

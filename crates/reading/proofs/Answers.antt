@@ -18,9 +18,9 @@ use Rattle.format.proofs.ByRows.{rows-none}
 use Rattle.record.specs.Faults.{fieldsOf, faultOf}
 use Rattle.record.specs.Read.{recordFor, textFor, valuesOf}
 use Rattle.record.specs.declared.Record.{Record}
-use Rattle.reading.specs.State.{startState, isKept, within}
+use Rattle.reading.specs.State.{startState, within}
 use Rattle.reading.specs.Step.{refused, judgedFirst, refusalLine, nothingRead, readBy, endedAt, stepAt}
-use Rattle.reading.specs.Check.{linesBy, linesOf, answerOf, answerBy, checkOf}
+use Rattle.reading.specs.Check.{linesBy, linesOf, answerOf, answerBy, restOf, checkOf}
 use Rattle.reading.specs.declared.State.{State}
 use Rattle.reading.specs.declared.Judged.{Judged}
 use Rattle.reading.specs.declared.LineRead.{LineRead}
@@ -137,21 +137,23 @@ lines-named j (line ∷ lines) p =
     let n = first-named (first (j .next) line) in
     either-named (eqb (i .number) 0) (linesBy i lines) i (lines-named i lines n) n
 
-module _ {j : Judged} {s : State} (file : List ℕ) (b : s ≡ startState) (e : j ≡ linesOf s file) where
-  is-run : j ≡ linesBy (refused startState 0 0) (rows file)
-  unfolding linesOf within isKept pick
-  is-run = e ∙ ap (λ u. linesOf u file) b
+module _ {j : Judged} (s : State) (xs : List ℕ) (e : j ≡ linesOf s xs) where
+  is-named : Named j
+  unfolding linesOf
+  is-named = subst Named (sym e) (either-named (within s) (linesBy (refused s 0 0) (rows xs)) (refused s 0 24) (lines-named (refused s 0 0) (rows xs) (λ z n. absurd (z refl))) (λ z n. absurd (n refl)))
 
-  is-file : j ≡ linesOf startState file
-  is-file = e ∙ ap (λ u. linesOf u file) b
+  pub rest-named : (j .number ≡ 0 → ⊥) → refusalLine (j .number) (j .next .line) ≤ 6999369996
+  rest-named z = name-small (j .number) (j .next .line) (is-named z)
 
-  pub file-named : (j .number ≡ 0 → ⊥) → refusalLine (j .number) (j .next .line) ≤ 6999369996
-  file-named z = name-small (j .number) (j .next .line) (subst Named (sym is-run) (lines-named (refused startState 0 0) (rows file) (λ z n. absurd (z refl))) z)
+  pub rest-stop : {l : ℕ} → (j .number ≡ 0 → ⊥) → l ≡ refusalLine (j .number) (j .next .line) → _≡_ {A = Answer} (record { number = j .number; line = l; column = j .column }) (restOf s xs)
+  unfolding restOf pick
+  rest-stop z h = ap (λ n. record { number = j .number; line = n; column = j .column }) h ∙ sym (ap answerBy (sym e) ∙ rw (ne-eqb _ _ z))
 
-  pub file-stop : {l : ℕ} → (j .number ≡ 0 → ⊥) → l ≡ refusalLine (j .number) (j .next .line) → _≡_ {A = Answer} (record { number = j .number; line = l; column = j .column }) (checkOf file)
-  unfolding checkOf pick
-  file-stop z h = ap (λ n. record { number = j .number; line = n; column = j .column }) h ∙ sym (ap answerBy (sym is-file) ∙ rw (ne-eqb _ _ z))
+  pub rest-end : {r : LineRead} → j .number ≡ 0 → r ≡ endedAt (j .next) → answerOf r ≡ restOf s xs
+  unfolding restOf pick
+  rest-end z h = ap answerOf h ∙ sym (ap answerBy (sym e) ∙ rw (eq-eqb _ _ z))
 
-  pub file-end : {r : LineRead} → j .number ≡ 0 → r ≡ endedAt (j .next) → answerOf r ≡ checkOf file
-  unfolding checkOf pick
-  file-end z h = ap answerOf h ∙ sym (ap answerBy (sym is-file) ∙ rw (eq-eqb _ _ z))
+-- of a state that a call gave as the start
+pub checked : {a : Answer} {s : State} (file : List ℕ) → s ≡ startState → a ≡ restOf s file → a ≡ checkOf file
+unfolding checkOf
+checked file b e = e ∙ ap (λ u. restOf u file) b

@@ -31,5 +31,9 @@ answerBy j =
     pick (eqb (j .number) 0) (answerOf (endedAt (j .next)))
     (record { number = j .number; line = refusalLine (j .number) (j .next .line); column = j .column })
 
+-- what the bytes that remain of a file are answered, its end included
+unfoldable pub restOf : State → List ℕ → Answer
+restOf s xs = answerBy (linesOf s xs)
+
 unfoldable pub checkOf : List ℕ → Answer
-checkOf file = answerBy (linesOf startState file)
+checkOf file = restOf startState file

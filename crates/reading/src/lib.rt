@@ -6,13 +6,11 @@ use format::Group;
 use record::Batch;
 use record::Record;
 
-mod file;
 mod judge;
 mod line;
 mod order;
+mod rest;
 mod step;
-
-pub use file::check;
 
 // How far a file is read: before its header, after it, in a batch before and after its ordering party, in an item, after a batch, after the file trailer.
 pub enum Stage {

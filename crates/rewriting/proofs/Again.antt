@@ -28,7 +28,7 @@ use Rattle.record.specs.declared.Batch.{Batch}
 use Rattle.record.proofs.Faulting.{type-known}
 use Rattle.reading.specs.State.{startState, isKept, within}
 use Rattle.reading.specs.Step.{nextFor, refused, taken, isDone, judgedFirst, nothingRead, readBy, endedAt, refusalLine, stepAt}
-use Rattle.reading.specs.Check.{linesBy, linesOf, answerOf, answerBy, checkOf}
+use Rattle.reading.specs.Check.{linesBy, linesOf, answerOf, answerBy, checkOf, restOf}
 use Rattle.reading.specs.declared.Name.the-variants.{Unwanted}
 use Rattle.reading.specs.declared.State.{State}
 use Rattle.reading.specs.declared.Judged.{Judged}
@@ -43,7 +43,7 @@ use Rattle.writer.specs.declared.Entry.{Entry}
 use Rattle.writer.specs.declared.Written.{Written}
 use Rattle.writer.proofs.Accepting.{step-front}
 use Rattle.writer.proofs.Again.{written-again}
-use Rattle.theorem.proofs.Meaning.{means}
+use Rattle.file.proofs.Meaning.{means}
 use Rattle.rewriting.specs.Cities.{isCity, keptLine, keptOf, withoutCities}
 use Rattle.rewriting.specs.Promises.{noCity, Rewrites, ended, city, written, Again, Promised}
 use Rattle.rewriting.specs.declared.Rewritten.{Rewritten}
@@ -163,14 +163,14 @@ abbrev judged : List ℕ → Judged
 judged file = linesBy (refused startState 0 0) (rows file)
 
 ended-file : (file : List ℕ) → checkOf file .number ≡ 0 → Ended (judged file)
-unfolding checkOf linesOf within isKept pick
+unfolding checkOf restOf linesOf within isKept pick
 ended-file file z = ends (judged file) z
 
 all-read : (file : List ℕ) → checkOf file .number ≡ 0 → Read startState file (rows file) (judged file .next)
 all-read file z = all-taken (refused startState 0 0) 0 file (ended-file file z .number)
 
 pub accepted-again : (file : List ℕ) → checkOf file .number ≡ 0 → checkOf (withoutCities file) .number ≡ 0
-unfolding checkOf linesOf within isKept pick withoutCities
+unfolding checkOf restOf linesOf within isKept pick withoutCities
 accepted-again file z =
     let p = follows (all-read file z) (refused startState 0 0) (record { number = refl; next = start-behind }) in
     ended-zero (judged (keptOf (rows file))) (ended-behind (judged file) (judged (keptOf (rows file))) (ended-file file z) p)

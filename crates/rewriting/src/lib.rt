@@ -74,7 +74,7 @@ pub fn rewrite(file: &[u8], out: &mut [u8]) -> Rewritten
     ensures bytes { λ _. ⌜ now (out .exit) ≡ roomAfter (now (file .entry)) (now (out .entry)) ⌝ }
     ensures again { λ r. ⌜ Promised (now (file .entry)) r (now (out .exit)) ⌝ }
 {
-    let a = reading::check(file);
+    let a = file::check(file);
     if a.number != 0 {
         return Rewritten {
             answer: a.number,

@@ -1,5 +1,6 @@
 use borrow.Author.Needs.{needs}
-use Rattle.file.proofs.Meanings.{meant}
+use Rattle.reading.proofs.Answers.{checked}
+use Rattle.file.proofs.Meaning.{meant}
 use Rattle.file.proofs.check.Statement.{statement}
 use Rattle.file.proofs.check.Tie as tie
 
@@ -7,6 +8,7 @@ pub check-spec : {M : Type 1} → statement M
 check-spec =
     tie.close
     (tie.spec
-    (λ c κs. search needs)  -- check-requires
-    (λ c. (search needs, meant _ (search needs)))  -- returns
+    (λ c κs. search needs)  -- start-requires
+    (λ c κs. search needs)  -- rest-requires
+    (λ c. (search checked depth 3, meant _ (search checked depth 3)))  -- returns
     )

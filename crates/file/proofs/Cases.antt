@@ -1,0 +1,47 @@
+-- 01's cases, by computation. Assumes nothing.
+use mathlib.Core.Path.{refl}
+use Rattle.machine.specs.Lists.{pick, same}
+use Rattle.machine.specs.Digits.{digitsOnto, decimal, valueAfter}
+use Rattle.format.specs.Rules.{daysIn, isDate, isDesiredDate, isTestCode, isIdentification, isOfDay, weighted, isEleven, isOrderingAccount, isAccount, isOwnPayer, isOwnBeneficiary, isNameCodeIn, typeOf}
+use Rattle.format.specs.Cutting.{rowsFrom}
+use Rattle.field.specs.Rows.{fieldAnswer, firstOr}
+use Rattle.record.specs.Kinds.{codeOf, debitCode, batchCode, fileCode}
+use Rattle.record.specs.Faults.{firstFault, faultOf}
+use Rattle.reading.specs.State.{isKept, within}
+use Rattle.reading.specs.Order.{mayOpen, mayFix, mayEnd, mayPay, mayName, allowed}
+use Rattle.reading.specs.Step.{judgedAs, judgedKind, judgedLine, isWhole, judgedFirst, endedAt, stepAt}
+use Rattle.reading.specs.Check.{linesBy, linesOf, checkOf, restOf}
+use Rattle.file.proofs.Example.{example-reads}
+use Rattle.file.specs.Cases.{Each, Right, accountCases, amountCases, sumCases, dateCases, descriptionCases, sequenceCases, fileCases, cases}
+
+-- a record's first fault
+accounts : Each accountCases
+unfolding pick same digitsOnto decimal valueAfter weighted isEleven isOrderingAccount isAccount isOwnPayer isOwnBeneficiary typeOf fieldAnswer firstOr firstFault faultOf
+accounts = ((refl, refl), ((refl, refl), ((refl, refl), ((refl, refl), (refl, ((refl, refl), (refl, (refl, tt))))))))
+
+amounts : Each amountCases
+unfolding pick same digitsOnto decimal valueAfter weighted isEleven isOrderingAccount isAccount isOwnPayer isOwnBeneficiary typeOf fieldAnswer firstOr firstFault faultOf
+amounts = (refl, (refl, (refl, (refl, tt))))
+
+sequences : Each sequenceCases
+unfolding pick same digitsOnto decimal valueAfter weighted isEleven isOrderingAccount fieldAnswer firstOr firstFault faultOf
+sequences = (refl, (refl, tt))
+
+dates : Each dateCases
+unfolding pick daysIn isDate
+dates = (refl, (refl, (refl, (refl, tt))))
+
+descriptions : Each descriptionCases
+descriptions = (refl, (refl, (refl, tt)))
+
+-- lines one after the other
+sums : Each sumCases
+unfolding pick same digitsOnto decimal valueAfter weighted isEleven isOrderingAccount isAccount isOwnPayer isOwnBeneficiary typeOf fieldAnswer firstOr codeOf debitCode batchCode fileCode firstFault faultOf isKept within mayEnd mayPay allowed judgedAs judgedKind judgedLine isWhole judgedFirst stepAt
+sums = ((refl, refl, refl, refl, refl), ((refl, refl, refl, refl, refl), tt))
+
+files : Each fileCases
+unfolding pick same digitsOnto decimal valueAfter daysIn isDate isDesiredDate isTestCode isIdentification isOfDay weighted isEleven isOrderingAccount isAccount isOwnPayer isOwnBeneficiary isNameCodeIn typeOf fieldAnswer firstOr codeOf debitCode batchCode fileCode firstFault faultOf isKept within mayOpen mayFix mayEnd mayPay mayName allowed judgedAs judgedKind judgedLine isWhole judgedFirst endedAt rowsFrom linesBy linesOf restOf checkOf
+files = (refl, (refl, (example-reads, tt)))
+
+pub worked : Right cases
+worked = (accounts, (amounts, (sums, (dates, (descriptions, (sequences, (files, tt)))))))

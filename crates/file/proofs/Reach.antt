@@ -1,0 +1,230 @@
+-- What holds of every state of a run: its numbers are within 01's limits, and the lines read are no more than the batches and items read can have. Assumes nothing.
+use Prim.Native.Nat.{ℕ, zero, suc, _+_, _*_, _≤_, zero-le}
+use mathlib.Core.Path.{_≡_, refl, sym, ap, _∙_, subst}
+use mathlib.Core.List.{List, [], _∷_}
+use mathlib.Core.Bool.{Bool, true, false, not, _&&_, _||_}
+use native.Mathlib.Omega.{arith}
+use lib.ListN.{getD, take}
+use lib.Dec.{T, eqb, ltb, ltb→lt, eqb→eq}
+use Rattle.machine.specs.Lists.{inRange}
+use Rattle.machine.proofs.Base.{and-l, and-r, of-eq}
+use Rattle.format.specs.Records.{Fields, sequence, unidentified}
+use Rattle.format.specs.Rules.{maxSequence, mostDescriptions, sameGroup, needsName}
+use Rattle.format.specs.Language.{Follows}
+use Rattle.format.specs.Tests.{isNext}
+use Rattle.format.specs.declared.Kind.{Kind}
+use Rattle.format.specs.declared.Kind.the-variants.{FileHeader, BatchHeaderB, BatchHeaderC, FixedDescription, OrderingParty, Transaction, NamePayer, CityPayer, PaymentReference, Description, NameBeneficiary, CityBeneficiary, BatchTrailer, FileTrailer}
+use Rattle.format.specs.declared.Group.{Group}
+use Rattle.format.specs.declared.Group.the-variants.{Payments, Debits}
+use Rattle.format.proofs.Sound.{inRange→In, isNext→Follows}
+use Rattle.record.specs.Faults.{fieldsOf, faultOf}
+use Rattle.record.specs.Read.{transactionFor}
+use Rattle.record.specs.declared.Batch.{Batch}
+use Rattle.record.specs.declared.TransactionFields.{TransactionFields}
+use Rattle.reading.specs.State.{startState, within, Kept}
+use Rattle.reading.specs.Order.{stageNumber, isStage, isName, mayOpen, mayFix, mayEnd, mayPay, mayName, textsBy, mayText, mayRefer, mayDescribe, allowed}
+use Rattle.reading.specs.Step.{opened, withFixed, paid, named, texted, nextFor, nameIf, afterText, judgedFirst}
+use Rattle.reading.specs.declared.Stage.{Stage}
+use Rattle.reading.specs.declared.Stage.the-variants.{Start, Headed, Opened, Ordered, Item, Closed, Done}
+use Rattle.reading.specs.declared.Name.{Name}
+use Rattle.reading.specs.declared.Name.the-variants.{Unwanted, Due, Read, Past}
+use Rattle.reading.specs.declared.State.{State}
+use Rattle.reading.specs.declared.Judged.{Judged}
+use Rattle.reading.proofs.Limits.{within-yes}
+use Rattle.reading.proofs.Verdicts.{First, beyond, halted, moved, first}
+use Rattle.reading.proofs.Judgements.{kept-after}
+use Rattle.file.proofs.Faults.{faultless}
+
+-- a name and its city
+abbrev nameLines : Name → ℕ
+nameLines Unwanted = 0
+nameLines Due = 0
+nameLines Read = 1
+nameLines Past = 2
+
+abbrev referenceLines : Bool → ℕ
+referenceLines true = 1
+referenceLines false = 0
+
+-- a batch has at most 700,007 lines: header, four fixed descriptions, ordering party, trailer, and seven for each of 100,000 items
+abbrev Lines : Stage → ℕ → Batch → Name → Bool → ℕ → Type 0
+Lines Start n b m r d = (n ≡ 0) × (b .sequence ≡ 0)
+Lines Headed n b m r d = (n ≡ 1) × (b .sequence ≡ 0)
+Lines Opened n b m r d = (n + 700007 ≤ 700007 * b .sequence + 2 + b .fixed) × (1 ≤ b .sequence) × (b .items ≡ 0)
+Lines Ordered n b m r d = (n + 700007 ≤ 700007 * b .sequence + 7) × (1 ≤ b .sequence) × (b .items ≡ 0)
+Lines Item n b m r d = (n + 700007 ≤ 700007 * b .sequence + 7 * b .items + 1 + referenceLines r + d + nameLines m) × (1 ≤ b .sequence) × (referenceLines r + d ≤ 4)
+Lines Closed n b m r d = (n ≤ 700007 * b .sequence + 1) × (1 ≤ b .sequence)
+Lines Done n b m r d = n ≤ 700007 * b .sequence + 2
+
+abbrev LinesAt : Stage → State → Type 0
+LinesAt p s = Lines p (s .line) (s .batch) (s .item .name) (s .item .reference) (s .item .descriptions)
+
+abbrev pub Reach : State → Type 0
+Reach s = Kept s × LinesAt (s .stage) s
+
+pub reach-start : Reach startState
+reach-start = (record { items = zero-le; total = zero-le; accounts = zero-le; sequence = zero-le; fixed = zero-le; descriptions = zero-le }, (refl, refl))
+
+few-names : (m : Name) → nameLines m ≤ 2
+few-names Unwanted = omega arith
+few-names Due = omega arith
+few-names Read = omega arith
+few-names Past = omega arith
+
+few-lines : (p : Stage) (s : State) → Kept s → LinesAt p s → s .line ≤ 6999369995
+few-lines Start s k h = omega arith
+few-lines Headed s k h = omega arith
+few-lines Opened s k h = omega (arith, k .sequence, k .fixed)
+few-lines Ordered s k h = omega (arith, k .sequence)
+few-lines Item s k h = omega (arith, k .sequence, k .items, few-names (s .item .name))
+few-lines Closed s k h = omega (arith, k .sequence)
+few-lines Done s k h = omega (arith, k .sequence)
+
+pub reach-line : (s : State) → Reach s → s .line ≤ 6999369995
+reach-line s i = few-lines (s .stage) s (i .0) (i .1)
+
+-- NO STATE OF A RUN IS ONE THAT ANSWER 24 IS FOR
+pub reach-within : (s : State) → Reach s → within s ≡ true
+reach-within s i = within-yes s (i .0) (reach-line s i)
+
+-- ## What an allowed record says of the state
+
+stages : List Stage
+stages = Start ∷ Headed ∷ Opened ∷ Ordered ∷ Item ∷ Closed ∷ Done ∷ []
+
+stage-at : (p : Stage) → getD stages (stageNumber p) Done ≡ p
+unfolding stages
+stage-at Start = refl
+stage-at Headed = refl
+stage-at Opened = refl
+stage-at Ordered = refl
+stage-at Item = refl
+stage-at Closed = refl
+stage-at Done = refl
+
+is-stage : (p q : Stage) → T (isStage p q) → p ≡ q
+is-stage p q t = sym (stage-at p) ∙ ap (λ n. getD stages n Done) (eqb→eq (stageNumber p) (stageNumber q) t) ∙ stage-at q
+
+is-due : (m : Name) → T (isName m Due) → nameLines m ≡ 0
+is-due Unwanted t = refl
+is-due Due t = refl
+is-due Read t = absurd t
+is-due Past t = absurd t
+
+is-read : (m : Name) → T (isName m Read) → nameLines m ≡ 1
+is-read Unwanted t = absurd t
+is-read Due t = absurd t
+is-read Read t = refl
+is-read Past t = absurd t
+
+either : {A : Type 0} (a b : Bool) → T (a || b) → (T a → A) → (T b → A) → A
+either true b t f g = f tt
+either false b t f g = g t
+
+-- ## The lines after a record
+
+new-name : (q : Bool) → nameLines (nameIf q) ≡ 0
+new-name true = refl
+new-name false = refl
+
+after-text : (m : Name) → nameLines m ≤ nameLines (afterText m)
+after-text Unwanted = omega arith
+after-text Due = omega arith
+after-text Read = omega arith
+after-text Past = omega arith
+
+referred : (r : Bool) (d : ℕ) → T (not r && eqb d 0) → referenceLines r + d ≡ 0
+referred true d t = absurd t
+referred false d t = omega (arith, eqb→eq d 0 t)
+
+described : (r : Bool) (d : ℕ) → T (ltb d (mostDescriptions r)) → referenceLines r + (d + 1) ≤ 4
+described true d t = omega (arith, ltb→lt d 3 t)
+described false d t = omega (arith, ltb→lt d 4 t)
+
+following : (before n : ℕ) → 1 ≤ before → Follows before n → n ≡ before + 1
+following zero n h f = absurd (omega arith)
+following (suc p) n h f = omega (arith, f)
+
+module _ (s : State) (kept : Kept s) (i : LinesAt (s .stage) s) where
+  at-stage : (q : Stage) → T (isStage (s .stage) q) → LinesAt q s
+  at-stage q t = subst (λ p. LinesAt p s) (is-stage (s .stage) q t) i
+
+  as-stage : (q : Stage) (u : State) → T (isStage (s .stage) q) → LinesAt q u → LinesAt (s .stage) u
+  as-stage q u t h = subst (λ p. LinesAt p u) (sym (is-stage (s .stage) q t)) h
+
+  opened-lines : (x : Fields BatchHeaderB) → T (mayOpen (s .stage)) → T (inRange 1 maxSequence (sequence x)) → T (isNext (s .batch .sequence) (sequence x)) → LinesAt Opened (opened s x)
+  unfolding mayOpen
+  opened-lines x a r t =
+      let n = sequence x in
+      let h = inRange→In 1 maxSequence n r in
+      either (isStage (s .stage) Headed) (isStage (s .stage) Closed) a
+      (λ p. let w = at-stage Headed p in omega arith)
+      (λ p. let w = at-stage Closed p in omega (arith, following (s .batch .sequence) n (w .1) (isNext→Follows (s .batch .sequence) n t)))
+
+  paid-lines : (t : TransactionFields) → T (mayPay (s .stage) (s .item .name)) → LinesAt Item (paid s t)
+  unfolding mayPay mayEnd
+  paid-lines t a =
+      let z = new-name (needsName (t .kind)) in
+      either (isStage (s .stage) Ordered) (isStage (s .stage) Item && not (isName (s .item .name) Due)) a
+      (λ p. let w = at-stage Ordered p in omega arith)
+      (λ p. let w = at-stage Item (and-l (isStage (s .stage) Item) (not (isName (s .item .name) Due)) p) in omega (arith, few-names (s .item .name)))
+
+  -- a name or a city, with n lines before it
+  named-lines : (g : Bool) (m : Name) → nameLines m ≡ nameLines (s .item .name) + 1 → T (isStage (s .stage) Item && g) → LinesAt (s .stage) (named s m)
+  named-lines g m e a = let p = and-l (isStage (s .stage) Item) g a in let w = at-stage Item p in as-stage Item (named s m) p (omega arith)
+
+  due-lines : (g : Group) → T (isStage (s .stage) Item && (sameGroup (s .group) g && isName (s .item .name) Due)) → LinesAt (s .stage) (named s Read)
+  due-lines g a =
+      let b = sameGroup (s .group) g && isName (s .item .name) Due in
+      let e = is-due (s .item .name) (and-r (sameGroup (s .group) g) (isName (s .item .name) Due) (and-r (isStage (s .stage) Item) b a)) in
+      named-lines b Read (omega arith) a
+
+  read-lines : (g : Group) → T (isStage (s .stage) Item && (sameGroup (s .group) g && isName (s .item .name) Read)) → LinesAt (s .stage) (named s Past)
+  read-lines g a =
+      let b = sameGroup (s .group) g && isName (s .item .name) Read in
+      let e = is-read (s .item .name) (and-r (sameGroup (s .group) g) (isName (s .item .name) Read) (and-r (isStage (s .stage) Item) b a)) in
+      named-lines b Past (omega arith) a
+
+  texted-lines : (q : Bool) (r : Bool) (d : ℕ) → T ((isStage (s .stage) Item && textsBy (s .group) (s .item .name)) && q)
+      → referenceLines r + d ≡ referenceLines (s .item .reference) + s .item .descriptions + 1 → referenceLines r + d ≤ 4 → LinesAt (s .stage) (texted s r d)
+  texted-lines q r d a e h =
+      let p = and-l (isStage (s .stage) Item) (textsBy (s .group) (s .item .name)) (and-l (isStage (s .stage) Item && textsBy (s .group) (s .item .name)) q a) in
+      let w = at-stage Item p in
+      as-stage Item (texted s r d) p (omega (arith, after-text (s .item .name)))
+
+  lines-next : (k : Kind) (line : List ℕ) → T (allowed s k) → faultOf (s .said) (s .group) (s .batch) k line .number ≡ 0 → LinesAt (nextFor s k (fieldsOf k line) .stage) (nextFor s k (fieldsOf k line))
+  unfolding allowed mayFix mayName mayRefer mayDescribe mayText mayEnd
+  lines-next FileHeader line a f = let w = at-stage Start a in omega arith
+  lines-next BatchHeaderB line a f = let h = faultless (s .said) (s .group) (s .batch) BatchHeaderB line f .1 .1 .0 in opened-lines (fieldsOf BatchHeaderB line) a (h .0) (h .1 .0)
+  lines-next BatchHeaderC line a f = let h = faultless (s .said) (s .group) (s .batch) BatchHeaderC line f .1 .1 .0 in opened-lines (unidentified (fieldsOf BatchHeaderC line)) a (h .0) (h .1 .0)
+  lines-next FixedDescription line a f =
+      let p = and-l (isStage (s .stage) Opened) (ltb (s .batch .fixed) 4) a in
+      let w = at-stage Opened p in
+      as-stage Opened (withFixed s) p (omega arith)
+  lines-next OrderingParty line a f = let w = at-stage Opened a in omega (arith, kept .fixed)
+  lines-next Transaction line a f = paid-lines (transactionFor (fieldsOf Transaction line)) a
+  lines-next NamePayer line a f = due-lines Debits a
+  lines-next CityPayer line a f = read-lines Debits a
+  lines-next PaymentReference line a f =
+      let e = referred (s .item .reference) (s .item .descriptions) (and-r (mayText (s .stage) (s .group) (s .item .name)) _ a) in
+      texted-lines (not (s .item .reference) && eqb (s .item .descriptions) 0) true (s .item .descriptions) a (omega arith) (omega arith)
+  lines-next Description line a f =
+      let r = s .item .reference in
+      let e = described r (s .item .descriptions) (and-r (mayText (s .stage) (s .group) (s .item .name)) (ltb (s .item .descriptions) (mostDescriptions r)) a) in
+      texted-lines (ltb (s .item .descriptions) (mostDescriptions r)) r (s .item .descriptions + 1) a (omega arith) e
+  lines-next NameBeneficiary line a f = due-lines Payments a
+  lines-next CityBeneficiary line a f = read-lines Payments a
+  lines-next BatchTrailer line a f =
+      let w = at-stage Item (and-l (isStage (s .stage) Item) (not (isName (s .item .name) Due)) a) in
+      omega (arith, kept .items, few-names (s .item .name))
+  lines-next FileTrailer line a f = let w = at-stage Closed a in omega arith
+
+-- ## A run
+
+reach-first : {s : State} {xs : List ℕ} {j : Judged} → Reach s → First s xs j → LinesAt (j .next .stage) (j .next)
+reach-first i (beyond w) = i .1
+reach-first i (halted w c n z) = i .1
+reach-first {s} {xs} i (moved w k c a f) = lines-next s (i .0) (i .1) k (take 50 xs) (of-eq (allowed s k) a) f
+
+pub reach-next : (s : State) (xs : List ℕ) → Reach s → Reach (judgedFirst s xs .next)
+reach-next s xs i = (kept-after s xs refl (i .0), reach-first i (first s xs))

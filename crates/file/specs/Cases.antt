@@ -1,0 +1,179 @@
+-- 01's cases that are proved (1 to 11) and its example, of the definitions that the contracts name, in one table.
+use mathlib.Core.Path.{_≡_}
+use mathlib.Core.Bool.{Bool, true, false}
+use mathlib.Core.List.{List, [], _∷_}
+use mathlib.Core.Option.{none}
+use Prim.Native.Nat.{ℕ, _+_, _*_}
+use Prim.Native.String.{String}
+use lib.ListN.{take, drop}
+use Rattle.machine.specs.Lists.{spaces}
+use Rattle.machine.specs.Texts.{characters}
+use Rattle.descriptions.specs.Texts.{mergeOf}
+use Rattle.format.specs.Rules.{maxAmount, mostDescriptions, weighted, isEleven, isDate, typeText}
+use Rattle.format.specs.Language.{File, Rec, batchHeaderRec, batchTrailerRec, crlf, endBytes, lineOf, Reads}
+use Rattle.format.specs.Answers.{accepted, wrongValue, wrongAccount, differs, aboveMaximum, endsEarly}
+use Rattle.format.specs.declared.Kind.the-variants.{Transaction}
+use Rattle.format.specs.declared.Group.{Group}
+use Rattle.format.specs.declared.Group.the-variants.{Payments, Debits}
+use Rattle.format.specs.declared.TransactionType.the-variants.{Salary, Debit}
+use Rattle.record.specs.Faults.{faultAt, noFault, faultOf}
+use Rattle.record.specs.declared.Batch.{Batch}
+use Rattle.record.specs.declared.Fault.{Fault}
+use Rattle.reading.specs.State.{noItem}
+use Rattle.reading.specs.Step.{stepAt}
+use Rattle.reading.specs.Check.{checkOf}
+use Rattle.reading.specs.declared.Stage.the-variants.{Ordered}
+use Rattle.reading.specs.declared.State.{State}
+use Rattle.reading.specs.declared.LineRead.{LineRead}
+use Rattle.reading.specs.declared.Answer.{Answer}
+use Rattle.file.specs.Meaning.{answer}
+use Rattle.file.specs.Example.{example, exampleFile}
+
+pub data Case : Type 0 where
+  -- an account, its weighted sum, and whether it passes the eleven check
+  eleven : ℕ → ℕ → Bool → Case
+  -- a date, and whether it exists
+  date : ℕ → Bool → Case
+  -- a record in a group after a batch so far, and its first fault
+  line : Group → Batch → Rec → Fault → Case
+  -- the payer and the beneficiary of a batch's one item, their sum, what the batch has of it, and its ten digits in the trailer that is accepted
+  accountSum : ℕ → ℕ → ℕ → ℕ → String → Case
+  -- whether an item has a reference, the fixed and its own descriptions, and those handed out
+  merging : Bool → List (List ℕ) → List (List ℕ) → List (List ℕ) → Case
+  -- the bytes of a file, and their answer
+  file : List ℕ → Answer → Case
+  -- and the file that they are, which is then the only one
+  reading : List ℕ → File → Case
+
+-- a batch of the account 123456789: its number, its items so far, their total and account sum
+abbrev batch : ℕ → ℕ → ℕ → ℕ → Batch
+batch sequence items total accounts = record { account = 123456789; sequence = sequence; items = items; total = total; accounts = accounts; fixed = 0 }
+
+-- an item of it: a payment to 111111110, a debit from an account
+abbrev payment : ℕ → Rec
+payment amount = (Transaction, (typeText Salary, (amount, (123456789, (111111110, (tt, tt))))))
+
+abbrev debit : ℕ → Rec
+debit payer = (Transaction, (typeText Debit, (1, (payer, (123456789, (tt, tt))))))
+
+abbrev header : ℕ → Rec
+header sequence = batchHeaderRec Payments 123456789 sequence none
+
+-- an item of one cent, and the trailer after it
+abbrev cent : ℕ → ℕ → Rec
+cent payer beneficiary = (Transaction, (typeText Salary, (1, (payer, (beneficiary, (tt, tt))))))
+
+abbrev trailer : ℕ → Rec
+trailer accounts = batchTrailerRec 1 accounts 1
+
+-- a description of 32 characters
+abbrev text : ℕ → List ℕ
+text c = c ∷ spaces 31
+
+-- the 50 characters of a record, and its line
+abbrev lineText : Rec → List ℕ
+lineText r = lineOf [] r
+
+abbrev lineBytes : Rec → List ℕ
+lineBytes r = lineOf (endBytes crlf) r
+
+-- after the ordering party of a batch of an account, and after one item of it
+abbrev ordered : ℕ → State
+ordered account =
+    record {
+      line = 3;
+      stage = Ordered;
+      group = Payments;
+      said = true;
+      batch = record { account = account; sequence = 1; items = 0; total = 0; accounts = 0; fixed = 0 };
+      item = noItem;
+    }
+
+abbrev paidOne : ℕ → ℕ → LineRead
+paidOne payer beneficiary = stepAt (ordered payer) (lineBytes (cent payer beneficiary))
+
+abbrev Holds : Case → Type 0
+Holds (eleven account weight passes) = (weighted 10 1 account ≡ weight) × (isEleven account ≡ passes)
+Holds (date day exists) = isDate day ≡ exists
+Holds (line g b r fault) = faultOf true g b (r .0) (lineText r) ≡ fault
+Holds (accountSum payer beneficiary sum accounts digits) =
+    (payer + beneficiary ≡ sum)
+    × (paidOne payer beneficiary .answer ≡ accepted)
+    × (paidOne payer beneficiary .next .batch .accounts ≡ accounts)
+    × (take 10 (drop 23 (lineText (trailer accounts))) ≡ characters digits)
+    × (stepAt (paidOne payer beneficiary .next) (lineBytes (trailer accounts)) .answer ≡ accepted)
+Holds (merging reference fixed own handed) = mergeOf (mostDescriptions reference) fixed own ≡ handed
+Holds (file bytes told) = checkOf bytes ≡ told
+Holds (reading bytes f) = Reads bytes f
+
+abbrev pub Each : List Case → Type 0
+Each [] = Unit {0}
+Each (c ∷ cs) = Holds c × Each cs
+
+abbrev pub Right : List (List Case) → Type 0
+Right [] = Unit {0}
+Right (cs ∷ others) = Each cs × Right others
+
+-- 1, 2, 3
+abbrev pub accountCases : List Case
+accountCases =
+    eleven 123456789 165 true
+    ∷ eleven 123456788 164 false
+    ∷ eleven 1000000001 11 true
+    ∷ eleven 1000000000 10 false
+    ∷ line Debits (batch 1 0 0 0) (debit 9999999) noFault
+    ∷ eleven 10000003 11 true
+    ∷ line Debits (batch 1 0 0 0) (debit 10000003) (faultAt 22 wrongAccount)
+    ∷ line Debits (batch 1 0 0 0) (debit 0) (faultAt 22 wrongValue)
+    ∷ []
+
+-- 4, 5
+abbrev pub amountCases : List Case
+amountCases =
+    line Payments (batch 1 0 0 0) (payment 45378021608) noFault
+    ∷ line Payments (batch 1 0 0 0) (payment 45378021609) (faultAt 10 wrongValue)
+    ∷ line Payments (batch 1 100 (100 * maxAmount) 0) (payment 101) noFault
+    ∷ line Payments (batch 1 100 (100 * maxAmount) 0) (payment 102) (faultAt 10 aboveMaximum)
+    ∷ []
+
+-- 6
+abbrev pub sumCases : List Case
+sumCases =
+    accountSum 9999999999 4 10000000003 3 "0000000003"
+    ∷ accountSum 9999999980 20 10000000000 0 "0000000000"
+    ∷ []
+
+-- 7
+abbrev pub dateCases : List Case
+dateCases =
+    date 290208 true
+    ∷ date 290200 true
+    ∷ date 290209 false
+    ∷ date 310409 false
+    ∷ []
+
+-- 8, 9: the fixed A, B, C, D and the own P, Q, R
+abbrev pub descriptionCases : List Case
+descriptionCases =
+    merging false (text 65 ∷ text 66 ∷ []) (text 80 ∷ text 81 ∷ text 82 ∷ []) (text 65 ∷ text 66 ∷ text 80 ∷ text 81 ∷ [])
+    ∷ merging true (text 65 ∷ text 66 ∷ []) (text 80 ∷ text 81 ∷ text 82 ∷ []) (text 65 ∷ text 66 ∷ text 80 ∷ [])
+    ∷ merging true (text 65 ∷ text 66 ∷ text 67 ∷ text 68 ∷ []) (text 80 ∷ []) (text 65 ∷ text 66 ∷ text 67 ∷ [])
+    ∷ []
+
+-- 11
+abbrev pub sequenceCases : List Case
+sequenceCases =
+    line Payments (batch 9999 0 0 0) (header 1) (faultAt 18 differs)
+    ∷ line Payments (batch 9999 0 0 0) (header 0) (faultAt 18 wrongValue)
+    ∷ []
+
+-- 10, and the example
+abbrev pub fileCases : List Case
+fileCases =
+    file [] (answer endsEarly 1 0)
+    ∷ file example (answer accepted 9 0)
+    ∷ reading example exampleFile
+    ∷ []
+
+abbrev pub cases : List (List Case)
+cases = accountCases ∷ amountCases ∷ sumCases ∷ dateCases ∷ descriptionCases ∷ sequenceCases ∷ fileCases ∷ []

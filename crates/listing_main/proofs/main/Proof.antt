@@ -1,0 +1,32 @@
+use borrow.Author.Needs.{needs}
+use Prim.Native.Nat.{_-_}
+use mathlib.Core.Path.{_≡_}
+use lib.ListN.{length}
+use Rattle.listing_main.proofs.main.Statement.{statement}
+use Rattle.listing_main.proofs.main.Tie as tie
+
+abbrev Inv-loop : tie.InvT-loop
+Inv-loop page₀ arguments several status₀ i₀ page status i = length page ≡ 8192
+
+abbrev μ-loop : tie.MeasureT-loop
+μ-loop page₀ arguments several status₀ i₀ page status i = arguments - i
+
+pub main-spec : {M : Type 1} → statement M
+main-spec =
+    tie.close
+    (tie.spec
+    Inv-loop
+    μ-loop
+    (λ c κs. search needs)  -- arg-count-requires
+    (λ c. search needs)  -- slice-aggregate-list-input
+    (λ c κs. search needs)  -- list-input-requires
+    (λ c. search needs)  -- loop-holds
+    (λ c. search needs)  -- slice-aggregate-list-input-2
+    (λ c κs. search needs)  -- list-input-requires-2
+    (λ c κs. search needs)  -- worse-requires
+    (λ c. search needs)  -- add-i
+    (λ c. search needs)  -- loop-less
+    (λ c. search needs)  -- loop-again
+    (λ c κs. search needs)  -- end-with-requires
+    (λ c. search needs)  -- returns
+    )

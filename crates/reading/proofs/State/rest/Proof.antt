@@ -1,0 +1,15 @@
+use borrow.Author.Needs.{needs}
+use Rattle.reading.proofs.Answers.{rest-named, rest-stop, rest-end}
+use Rattle.reading.proofs.State.rest.Statement.{statement}
+use Rattle.reading.proofs.State.rest.Tie as tie
+
+pub rest-spec : {M : Type 1} → statement M
+rest-spec =
+    tie.close
+    (tie.spec
+    (λ c κs. search needs)
+    (λ c κs. search rest-named depth 20 fits 10000)
+    (λ c. search rest-stop depth 20 fits 10000)
+    (λ c κs. search needs)
+    (λ c. search rest-end depth 20 fits 10000)
+    )

@@ -1,1 +1,0 @@
-// No code: what the answer of a whole file means, and its worked cases (specs/, proofs/).
