@@ -22,7 +22,8 @@ use Rattle.format.specs.declared.Group.the-variants.{Payments, Debits}
 use Rattle.format.specs.declared.Code.{Code}
 use Rattle.format.specs.declared.Code.the-variants.{Of, Unknown}
 use Rattle.format.proofs.Checks.{judge, pass-judge, lineChecks}
-use Rattle.format.proofs.Reader.{Room, fresh, left, Phase, opened, paying, owed, at, unnamed-payment, named-payment, open-debit, Place, file-header, first-batch-b, first-batch-c, next-batch-b, next-batch-c, fixed-description, ordering-party, first-item, next-item, batch-trailer, payment-reference, payment-description, payment-description-more, beneficiary-name, beneficiary-city, payer-name, payer-city, debit-reference, debit-description, debit-description-more, file-trailer, Choice, choices, opens, addItem, beginItem, advance, tests, maxima, kinds, kindOf, find, step}
+use Rattle.format.proofs.Every.{kinds}
+use Rattle.format.proofs.Reader.{Room, fresh, left, Phase, opened, paying, owed, at, unnamed-payment, named-payment, open-debit, Place, file-header, first-batch-b, first-batch-c, next-batch-b, next-batch-c, fixed-description, ordering-party, first-item, next-item, batch-trailer, payment-reference, payment-description, payment-description-more, beneficiary-name, beneficiary-city, payer-name, payer-city, debit-reference, debit-description, debit-description-more, file-trailer, Choice, choices, opens, addItem, beginItem, advance, tests, maxima, kindOf, find, step}
 use Rattle.format.proofs.Reader as the
 use Rattle.format.proofs.Link.{find-code, not-ended, line-widths, step-in, step-out, kindOf-code}
 use Rattle.field.specs.Rows.{cut}

@@ -16,7 +16,8 @@ use Rattle.format.specs.declared.Kind.{Kind}
 use Rattle.format.specs.declared.Kind.the-variants.{FileHeader, BatchHeaderB, BatchHeaderC, FixedDescription, OrderingParty, Transaction, NamePayer, CityPayer, PaymentReference, Description, NameBeneficiary, CityBeneficiary, BatchTrailer, FileTrailer}
 use Rattle.format.specs.declared.Group.{Group}
 use Rattle.format.specs.declared.Group.the-variants.{Payments, Debits}
-use Rattle.format.proofs.Reader.{Room, fresh, left, Phase, start, headed, opened, ordered, paying, paid, owing, owed, closed, done, Context, at, Place, Choice, choices, kinds, kindOf, find}
+use Rattle.format.proofs.Every.{kinds, every}
+use Rattle.format.proofs.Reader.{Room, fresh, left, Phase, start, headed, opened, ordered, paying, paid, owing, owed, closed, done, Context, at, Place, Choice, choices, kindOf, find}
 use Rattle.format.proofs.Reader as the
 use Rattle.format.proofs.Link.{find-code, kindOf-code}
 use Rattle.record.specs.Faults.{groupSaid}
@@ -158,20 +159,7 @@ on-each f g [] t = tt
 on-each f g (k ∷ ks) t = (same-truth (f k) (g k) (and-l (sameTruth (f k) (g k)) (agreeOn f g ks) t), on-each f g ks (and-r (sameTruth (f k) (g k)) (agreeOn f g ks) t))
 
 on-every : (f g : Kind → Bool) → OnEach f g kinds → (k : Kind) → f k ≡ g k
-on-every f g h FileHeader = h .0
-on-every f g h BatchHeaderB = h .1 .0
-on-every f g h BatchHeaderC = h .1 .1 .0
-on-every f g h FixedDescription = h .1 .1 .1 .0
-on-every f g h OrderingParty = h .1 .1 .1 .1 .0
-on-every f g h Transaction = h .1 .1 .1 .1 .1 .0
-on-every f g h NamePayer = h .1 .1 .1 .1 .1 .1 .0
-on-every f g h CityPayer = h .1 .1 .1 .1 .1 .1 .1 .0
-on-every f g h PaymentReference = h .1 .1 .1 .1 .1 .1 .1 .1 .0
-on-every f g h Description = h .1 .1 .1 .1 .1 .1 .1 .1 .1 .0
-on-every f g h NameBeneficiary = h .1 .1 .1 .1 .1 .1 .1 .1 .1 .1 .0
-on-every f g h CityBeneficiary = h .1 .1 .1 .1 .1 .1 .1 .1 .1 .1 .1 .0
-on-every f g h BatchTrailer = h .1 .1 .1 .1 .1 .1 .1 .1 .1 .1 .1 .1 .0
-on-every f g h FileTrailer = h .1 .1 .1 .1 .1 .1 .1 .1 .1 .1 .1 .1 .1 .0
+on-every f g h = every (λ k. f k ≡ g k) (h .0) (h .1 .0) (h .1 .1 .0) (h .1 .1 .1 .0) (h .1 .1 .1 .1 .0) (h .1 .1 .1 .1 .1 .0) (h .1 .1 .1 .1 .1 .1 .0) (h .1 .1 .1 .1 .1 .1 .1 .0) (h .1 .1 .1 .1 .1 .1 .1 .1 .0) (h .1 .1 .1 .1 .1 .1 .1 .1 .1 .0) (h .1 .1 .1 .1 .1 .1 .1 .1 .1 .1 .0) (h .1 .1 .1 .1 .1 .1 .1 .1 .1 .1 .1 .0) (h .1 .1 .1 .1 .1 .1 .1 .1 .1 .1 .1 .1 .0) (h .1 .1 .1 .1 .1 .1 .1 .1 .1 .1 .1 .1 .1 .0)
 
 same-order : (p : Stage) (said : Bool) (g : Group) (f : ℕ) (n : Name) (r : Room) → T (agreeOn (mayFollow p g n (someLeft f) (refers r) (describes r)) (hasPlace (phaseIn p said g f n r)) kinds)
 unfolding mayFollow hasPlace same mayOpen mayEnd mayPay mayName textsBy mayText

@@ -1,3 +1,5 @@
+pub mod Every
+pub mod Before
 pub mod Checks
 pub mod Reader
 pub mod Link

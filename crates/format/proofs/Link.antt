@@ -20,7 +20,8 @@ use Rattle.format.specs.declared.Kind.{Kind}
 use Rattle.format.specs.declared.Kind.the-variants.{FileHeader, BatchHeaderB, BatchHeaderC, FixedDescription, OrderingParty, Transaction, NamePayer, CityPayer, PaymentReference, Description, NameBeneficiary, CityBeneficiary, BatchTrailer, FileTrailer}
 use Rattle.format.specs.declared.Group.{Group}
 use Rattle.format.proofs.Checks.{judge, judge-pass, pass-judge, lineChecks, line-passed, Written, line-written}
-use Rattle.format.proofs.Reader.{fresh, left, Phase, Context, State, at, ended, MayEnd, unnamed-payment, named-payment, open-debit, Place, file-header, first-batch-b, first-batch-c, next-batch-b, next-batch-c, fixed-description, ordering-party, first-item, next-item, batch-trailer, payment-reference, payment-description, payment-description-more, beneficiary-name, beneficiary-city, payer-name, payer-city, debit-reference, debit-description, debit-description-more, file-trailer, Choice, choices, advance, tests, maxima, checks, kinds, kindOf, find, lost, found, step, Ok}
+use Rattle.format.proofs.Every.{kinds, every}
+use Rattle.format.proofs.Reader.{fresh, left, Phase, Context, State, at, ended, MayEnd, unnamed-payment, named-payment, open-debit, Place, file-header, first-batch-b, first-batch-c, next-batch-b, next-batch-c, fixed-description, ordering-party, first-item, next-item, batch-trailer, payment-reference, payment-description, payment-description-more, beneficiary-name, beneficiary-city, payer-name, payer-city, debit-reference, debit-description, debit-description-more, file-trailer, Choice, choices, advance, tests, maxima, checks, kindOf, find, lost, found, step, Ok}
 
 -- ## A record's place is found by its code
 
@@ -128,20 +129,7 @@ not-ended file-trailer = tt
 
 -- every line has 5 and 45 characters
 pub line-widths : (k : Kind) → (length (code k) ≡ 5) × (widths (layout k) ≡ 45)
-line-widths FileHeader = (refl, refl)
-line-widths BatchHeaderB = (refl, refl)
-line-widths BatchHeaderC = (refl, refl)
-line-widths FixedDescription = (refl, refl)
-line-widths OrderingParty = (refl, refl)
-line-widths Transaction = (refl, refl)
-line-widths NamePayer = (refl, refl)
-line-widths CityPayer = (refl, refl)
-line-widths PaymentReference = (refl, refl)
-line-widths Description = (refl, refl)
-line-widths NameBeneficiary = (refl, refl)
-line-widths CityBeneficiary = (refl, refl)
-line-widths BatchTrailer = (refl, refl)
-line-widths FileTrailer = (refl, refl)
+line-widths = every (λ k. (length (code k) ≡ 5) × (widths (layout k) ≡ 45)) (refl, refl) (refl, refl) (refl, refl) (refl, refl) (refl, refl) (refl, refl) (refl, refl) (refl, refl) (refl, refl) (refl, refl) (refl, refl) (refl, refl) (refl, refl) (refl, refl)
 
 line-parts : (z c : List ℕ) → T (ends z c) → c ≡ take 5 c ++ (take 45 (drop 5 c) ++ z)
 line-parts z c f =
@@ -241,20 +229,7 @@ step-out p s c e = ap (found s (take 5 c) (take 45 (drop 5 c))) e
 
 pub kindOf-code : (k : Kind) → kindOf (code k) kinds ≡ some k
 unfolding same
-kindOf-code FileHeader = refl
-kindOf-code BatchHeaderB = refl
-kindOf-code BatchHeaderC = refl
-kindOf-code FixedDescription = refl
-kindOf-code OrderingParty = refl
-kindOf-code Transaction = refl
-kindOf-code NamePayer = refl
-kindOf-code CityPayer = refl
-kindOf-code PaymentReference = refl
-kindOf-code Description = refl
-kindOf-code NameBeneficiary = refl
-kindOf-code CityBeneficiary = refl
-kindOf-code BatchTrailer = refl
-kindOf-code FileTrailer = refl
+kindOf-code = every (λ k. kindOf (code k) kinds ≡ some k) refl refl refl refl refl refl refl refl refl refl refl refl refl refl
 
 fields-at : List ℕ → Option Kind → Option Rec
 fields-at l none = none

@@ -16,6 +16,7 @@ use Rattle.format.specs.declared.Kind.{Kind}
 use Rattle.format.specs.declared.Kind.the-variants.{FileHeader, BatchHeaderB, BatchHeaderC, FixedDescription, OrderingParty, Transaction, NamePayer, CityPayer, PaymentReference, Description, NameBeneficiary, CityBeneficiary, BatchTrailer, FileTrailer}
 use Rattle.format.specs.declared.Group.{Group}
 use Rattle.format.specs.declared.Group.the-variants.{Payments, Debits}
+use Rattle.format.proofs.Every.{kinds}
 use Rattle.format.proofs.Checks.{Holds, judge, Pass, lineChecks}
 
 -- ## Where the reader is
@@ -229,10 +230,6 @@ abbrev pub checks : {p : Phase} {k : Kind} → Place p k → Context → List �
 checks {k = k} pl s l = lineChecks 6 (layout k) (tests pl s (readFields (layout k) l)) l (maxima k s (readFields (layout k) l))
 
 -- ## One line
-
-abbrev pub kinds : List Kind
-kinds =
-    FileHeader ∷ BatchHeaderB ∷ BatchHeaderC ∷ FixedDescription ∷ OrderingParty ∷ Transaction ∷ NamePayer ∷ CityPayer ∷ PaymentReference ∷ Description ∷ NameBeneficiary ∷ CityBeneficiary ∷ BatchTrailer ∷ FileTrailer ∷ []
 
 abbrev pub kindOf : List ℕ → List Kind → Option Kind
 kindOf c [] = none
