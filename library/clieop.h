@@ -1,8 +1,8 @@
 /* CLIEOP03 payment files: check a file, take an item out of it, write it again.
  *
- * Each function returns one number with its answer, line and column, which the three macros below read. The answer is 0 accepted,
- * 1 to 11 the file's refusal, 12 no room, 13 no such batch or item (clieop(1) and docs/FORMAT.md have the table). An accepted
- * file's line is its number of lines. What is lent is written with answer 0 only; any other answer leaves all of it as it was.
+ * Each function returns one number with its answer, line and column, which the three macros below read. The answer is 0 where the file is
+ * accepted; clieop(1) and docs/FORMAT.md have the table. An accepted file's line is its number of lines. What is lent is written with answer 0
+ * only; any other answer leaves all of it as it was.
  *
  * Every file of every length and content, and every length of what is lent, gets an answer; no function allocates, keeps anything or
  * reads anything but what it is lent. What C cannot promise is the caller's part: no pointer is null, each has as many bytes or numbers
