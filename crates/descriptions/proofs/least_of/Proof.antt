@@ -1,3 +1,4 @@
+-- What least_of ensures, by the laws of field's Picks.
 use Rattle.field.proofs.Picks.{picks}
 use Rattle.descriptions.proofs.least_of.Statement.{statement}
 use Rattle.descriptions.proofs.least_of.Tie as tie

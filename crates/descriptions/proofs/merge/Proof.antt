@@ -1,3 +1,4 @@
+-- What merge ensures, by the laws of Merging.
 use borrow.Author.Needs.{needs}
 use Rattle.descriptions.proofs.Merging.{merges}
 use Rattle.descriptions.proofs.merge.Statement.{statement}

@@ -1,3 +1,4 @@
+-- What texts_of_both ensures, by the laws of Merging.
 use borrow.Author.Needs.{needs}
 use Rattle.descriptions.proofs.Merging.{boths}
 use Rattle.descriptions.proofs.texts_of_both.Statement.{statement}

@@ -1,3 +1,4 @@
+-- What has_room ensures, by the laws of Placing.
 use Rattle.page.proofs.Placing.{rooms}
 use Rattle.page.proofs.has_room.Statement.{statement}
 use Rattle.page.proofs.has_room.Tie as tie

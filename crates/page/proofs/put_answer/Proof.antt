@@ -1,3 +1,4 @@
+-- What put_answer ensures, by the laws of Spelling.
 use borrow.Author.Needs.{needs}
 use Rattle.page.proofs.Spelling.{answers}
 use Rattle.page.proofs.put_answer.Statement.{statement}

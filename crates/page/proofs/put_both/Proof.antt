@@ -1,3 +1,4 @@
+-- What put_both ensures, by the laws of field's Putting.
 use borrow.Author.Needs.{needs}
 use Rattle.field.proofs.Putting.{put-both}
 use Rattle.page.proofs.put_both.Statement.{statement}

@@ -1,3 +1,4 @@
+-- What put_digits ensures, by the laws of Spelling.
 use borrow.Author.Needs.{needs}
 use Rattle.page.proofs.Spelling.{spells}
 use Rattle.page.proofs.put_digits.Statement.{statement}

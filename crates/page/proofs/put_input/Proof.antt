@@ -1,3 +1,4 @@
+-- What put_input ensures, by the laws of field's Picks.
 use borrow.Author.Needs.{needs}
 use Rattle.field.proofs.Picks.{pick-yes, pick-no}
 use Rattle.page.proofs.put_input.Statement.{statement}

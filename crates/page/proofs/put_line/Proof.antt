@@ -1,3 +1,4 @@
+-- What put_line ensures, by the laws of Placing.
 use borrow.Author.Needs.{needs}
 use Rattle.page.proofs.Placing.{line-left, both-fit, end-fits, line-put}
 use Rattle.page.proofs.put_line.Statement.{statement}

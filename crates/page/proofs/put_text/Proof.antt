@@ -1,3 +1,4 @@
+-- What put_text ensures, by the laws of Placing.
 use borrow.Author.Needs.{needs}
 use Rattle.page.proofs.Placing.{texts}
 use Rattle.page.proofs.put_text.Statement.{statement}

@@ -1,3 +1,4 @@
+-- What zeros ensures and its loop keeps, by the laws of Spelling.
 use Prim.Native.Nat.{_-_}
 use Rattle.page.proofs.Spelling.{passes, Passing}
 use Rattle.page.proofs.zeros.Statement.{statement}

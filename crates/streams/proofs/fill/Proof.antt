@@ -1,3 +1,4 @@
+-- What fill ensures and its loop keeps, by the laws of Filling.
 use Prim.Native.Nat.{_-_, _≤_}
 use mathlib.Core.Path.{_≡_}
 use lib.ListN.{length}

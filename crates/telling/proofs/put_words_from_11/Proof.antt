@@ -1,3 +1,4 @@
+-- What put_words_from_11 ensures, by the laws of Telling.
 use borrow.Author.Needs.{needs}
 use Rattle.telling.proofs.Telling.{tells}
 use Rattle.telling.proofs.put_words_from_11.Statement.{statement}

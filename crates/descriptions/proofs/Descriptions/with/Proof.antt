@@ -1,3 +1,4 @@
+-- What Descriptions::with ensures, by the laws of Adding.
 use borrow.Author.Needs.{needs}
 use Rattle.descriptions.proofs.Adding.{adds}
 use Rattle.descriptions.proofs.Descriptions.with.Statement.{statement}

@@ -1,3 +1,4 @@
+-- What status::digit_of ensures, by the laws of Taking.
 use borrow.Author.Needs.{needs}
 use Rattle.streams.proofs.Taking.{statuses}
 use Rattle.streams.proofs.status.digit_of.Statement.{statement}

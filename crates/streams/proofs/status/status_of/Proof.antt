@@ -1,3 +1,4 @@
+-- What status::status_of ensures, by the laws of field's Picks.
 use borrow.Author.Needs.{needs}
 use Rattle.field.proofs.Picks.{picks}
 use Rattle.streams.specs.Status.{statusOf}

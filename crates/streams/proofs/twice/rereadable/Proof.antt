@@ -1,3 +1,4 @@
+-- What twice::rereadable ensures.
 use borrow.Author.Needs.{needs}
 use Rattle.machine.specs.Lists.{pick}
 use Rattle.streams.proofs.twice.rereadable.Statement.{statement}

@@ -1,3 +1,4 @@
+-- What fields::put_after ensures, by the laws of Telling.
 use borrow.Author.Needs.{needs}
 use Rattle.telling.proofs.Telling.{kinds}
 use Rattle.telling.proofs.fields.put_after.Statement.{statement}

@@ -1,3 +1,4 @@
+-- What fields::put_field ensures, by the laws of Telling.
 use borrow.Author.Needs.{needs}
 use Rattle.telling.proofs.Telling.{tells}
 use Rattle.telling.specs.Names.{fieldName}

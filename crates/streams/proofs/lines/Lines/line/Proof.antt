@@ -1,3 +1,4 @@
+-- What lines::Lines::line ensures, by the laws of Taking.
 use borrow.Author.Needs.{needs}
 use Rattle.streams.proofs.Taking.{taking}
 use Rattle.streams.proofs.lines.Lines.line.Statement.{statement}

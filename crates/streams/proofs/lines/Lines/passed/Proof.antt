@@ -1,3 +1,4 @@
+-- What lines::Lines::passed ensures, by the laws of Taking.
 use borrow.Author.Needs.{needs}
 use Rattle.streams.proofs.Taking.{passing}
 use Rattle.streams.proofs.lines.Lines.passed.Statement.{statement}

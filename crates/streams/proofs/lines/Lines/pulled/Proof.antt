@@ -1,3 +1,4 @@
+-- What lines::Lines::pulled ensures, by the laws of Taking.
 use borrow.Author.Needs.{needs}
 use Rattle.streams.proofs.Taking.{pulls}
 use Rattle.streams.proofs.lines.Lines.pulled.Statement.{statement}
