@@ -16,9 +16,10 @@ use mir.Syntax.{w64}
 use Rattle.machine.specs.Lists.{all, isDigit}
 use Rattle.machine.specs.Digits.{valueAfter, valueOf}
 use Rattle.machine.proofs.Base.{and-first, and-second}
-use Rattle.format.specs.Rules.{isEleven, isOrderingAccount, isAccount, weighted}
+use Rattle.format.specs.Rules.{isEleven, isOrderingAccount, isAccount, weighted, isOwnIf}
+use Rattle.format.specs.Tests.{rangeTests}
 use Rattle.field.specs.declared.numbers.Numeric.{Numeric}
-use Rattle.field.specs.Leaf.{TenDigits, weighedSum, isOwnIf, numericOf, rangeTests}
+use Rattle.field.specs.Leaf.{TenDigits, weighedSum, numericOf}
 use Rattle.field.proofs.Numerics.{is-digits, next-low, next-high, next-left}
 use Rattle.field.proofs.Rows.{of-value}
 

@@ -16,11 +16,11 @@ use mir.Syntax.{w64}
 use Rattle.machine.specs.Lists.{pick, all, isDigit}
 use Rattle.machine.specs.Digits.{valueAfter, valueOf}
 use Rattle.machine.proofs.Base.{and-first, and-second}
-use Rattle.format.specs.Tests.{Test, test}
+use Rattle.format.specs.Tests.{Test, test, rangeTests}
 use Rattle.field.specs.declared.numbers.Digits.{Digits}
 use Rattle.field.specs.declared.numbers.Numeric.{Numeric}
 use Rattle.field.specs.Rows.{firstAnswer, fieldAnswer}
-use Rattle.field.specs.Leaf.{noDigits, digitsOf, wrongAs, rightOf, numericBy, numericAnswer, numericOf, rangedBy, rangeTests}
+use Rattle.field.specs.Leaf.{noDigits, digitsOf, wrongAs, rightOf, numericBy, numericAnswer, numericOf, rangedBy}
 use Rattle.field.proofs.Picks.{picks, told}
 
 -- ## The next of the digits that are left

@@ -10,12 +10,12 @@ use lib.Dec.{eqb, leb}
 use Rattle.machine.specs.Lists.{pick, inRange}
 use Rattle.machine.specs.Digits.{valueOf}
 use Rattle.format.specs.Fields.{numeric}
-use Rattle.format.specs.Rules.{maxAccount, isDate, isDesiredDate, isOrderingAccount, isAccount}
+use Rattle.format.specs.Rules.{maxAccount, isDate, isDesiredDate, isOrderingAccount, isAccount, isOwnIf}
 use Rattle.format.specs.Answers.{wrongValue, wrongAccount, differs, wrongTrailer}
-use Rattle.format.specs.Tests.{Test, test}
+use Rattle.format.specs.Tests.{Test, test, rangeTests, dateTests, desiredTests, totalTests, equalTests, orderingTests, partyTests}
 use Rattle.field.specs.declared.numbers.Numeric.{Numeric}
 use Rattle.field.specs.Rows.{Row, row, fieldAnswer, firstOr}
-use Rattle.field.specs.Leaf.{numericAnswer, numericOf, rangeTests, dateTests, desiredTests, totalTests, equalTests, orderingTests, isOwnIf, partyTests}
+use Rattle.field.specs.Leaf.{numericAnswer, numericOf}
 
 -- ## A chain of tests
 

@@ -5,12 +5,11 @@ use mathlib.Core.List.{List, [], _∷_}
 use mathlib.Core.Bool.{Bool, true, false, _&&_}
 use lib.ListN.{length}
 use lib.Dec.{leb, ltb, eqb}
-use Rattle.machine.specs.Lists.{pick, all, isDigit, inRange}
+use Rattle.machine.specs.Lists.{pick, all, isDigit}
 use Rattle.machine.specs.Digits.{valueOf}
 use Rattle.format.specs.Fields.{numeric}
-use Rattle.format.specs.Rules.{maxAccount, isDate, isDesiredDate, isOrderingAccount, isAccount}
-use Rattle.format.specs.Answers.{wrongForm, wrongValue, wrongAccount, differs, wrongTrailer}
-use Rattle.format.specs.Tests.{Test, test}
+use Rattle.format.specs.Answers.{wrongForm, wrongValue}
+use Rattle.format.specs.Tests.{Test}
 use Rattle.field.specs.Rows.{fieldAnswer}
 use Rattle.field.specs.declared.numbers.Digits.{Digits}
 use Rattle.field.specs.declared.numbers.Numeric.{Numeric}
@@ -58,31 +57,3 @@ pub record TenDigits (l : List ℕ) (v : ℕ) : Type 0 where
 unfoldable pub weighedSum : List ℕ → ℕ
 weighedSum [] = 0
 weighedSum (c ∷ l) = suc (length l) * (c - 48) + weighedSum l
-
--- ## The tests of each
-
-abbrev pub rangeTests : ℕ → ℕ → ℕ → List Test
-rangeTests low high v = test (inRange low high v) wrongValue ∷ []
-
-abbrev pub dateTests : ℕ → List Test
-dateTests v = test (isDate v) wrongValue ∷ []
-
-abbrev pub desiredTests : ℕ → List Test
-desiredTests v = test (isDesiredDate v) wrongValue ∷ []
-
-abbrev pub totalTests : ℕ → ℕ → ℕ → ℕ → List Test
-totalTests low high right v = test (inRange low high v) wrongValue ∷ test (eqb v right) wrongTrailer ∷ []
-
-abbrev pub equalTests : ℕ → ℕ → List Test
-equalTests right v = test (eqb v right) wrongTrailer ∷ []
-
-abbrev pub orderingTests : ℕ → List Test
-orderingTests v = test (inRange 1 maxAccount v) wrongValue ∷ test (isOrderingAccount v) wrongAccount ∷ []
-
--- the own account, where it has to be
-unfoldable pub isOwnIf : Bool → ℕ → ℕ → Bool
-isOwnIf true own v = eqb v own
-isOwnIf false own v = true
-
-abbrev pub partyTests : Bool → ℕ → ℕ → List Test
-partyTests mine own v = test (inRange 1 maxAccount v) wrongValue ∷ test (isAccount v) wrongAccount ∷ test (isOwnIf mine own v) differs ∷ []

@@ -2,7 +2,8 @@
 ghost use mathlib.Core.Path.{_≡_};
 ghost use lib.ListN.{take, drop};
 ghost use Rattle.format.specs.Rules.{daysIn, isDate};
-ghost use Rattle.field.specs.Leaf.{numericAnswer, numericOf, dateTests, desiredTests};
+ghost use Rattle.format.specs.Tests.{dateTests, desiredTests};
+ghost use Rattle.field.specs.Leaf.{numericAnswer, numericOf};
 use crate::numbers::Numeric;
 use crate::numbers::digits_at;
 use crate::numbers::right;

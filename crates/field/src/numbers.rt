@@ -5,7 +5,8 @@ ghost use Prim.Native.Nat.{_+_, _≤_, _<_};
 ghost use lib.ListN.{length, take, drop};
 ghost use Rattle.machine.specs.Lists.{all, isDigit};
 ghost use Rattle.machine.specs.Digits.{decimal, valueOf};
-ghost use Rattle.field.specs.Leaf.{digitsOf, wrongAs, rightOf, numericAnswer, numericOf, rangedBy, rangeTests, totalTests, equalTests};
+ghost use Rattle.format.specs.Tests.{rangeTests, totalTests, equalTests};
+ghost use Rattle.field.specs.Leaf.{digitsOf, wrongAs, rightOf, numericAnswer, numericOf, rangedBy};
 use crate::bytes::is_digits;
 use crate::bytes::part;
 

@@ -1,11 +1,9 @@
 // Alphanumeric fields and fillers.
 ghost use mathlib.Core.Path.{_≡_};
-ghost use mathlib.Core.List.{[], _∷_};
+ghost use mathlib.Core.List.{[]};
 ghost use lib.ListN.{take, drop};
-ghost use Rattle.machine.specs.Lists.{same};
 ghost use Rattle.format.specs.Fields.{filled, optional, free, filler};
-ghost use Rattle.format.specs.Answers.{wrongValue};
-ghost use Rattle.format.specs.Tests.{test};
+ghost use Rattle.format.specs.Tests.{textTests};
 ghost use Rattle.field.specs.Rows.{fieldAnswer};
 use crate::bytes::is_blank;
 use crate::bytes::is_left_justified;
@@ -62,7 +60,8 @@ pub fn free_answer(line: &[u8], at: usize, width: usize) -> u8
 
 // A text that has to be this one.
 pub fn exactly_answer(line: &[u8], at: usize, width: usize, text: &[u8]) -> u8
-    ensures { λ r. ⌜ r ≡ fieldAnswer (filled width) (test (same (take width (drop at (now (line .entry)))) (now (text .entry))) wrongValue ∷ []) (take width (drop at (now (line .entry)))) ⌝ }
+    ensures { λ r. ⌜ r ≡ fieldAnswer (filled width) (textTests (now (text .entry)) (take width (drop at (now (line .entry)))))
+        (take width (drop at (now (line .entry)))) ⌝ }
 {
     let f = filled_answer(line, at, width);
     if f != 0 {

@@ -2,7 +2,7 @@
 use mathlib.Core.Path.{refl}
 use Rattle.machine.specs.Lists.{pick, same}
 use Rattle.machine.specs.Digits.{digitsOnto, decimal, valueAfter}
-use Rattle.format.specs.Rules.{daysIn, isDate, isDesiredDate, isTestCode, isIdentification, isOfDay, weighted, isEleven, isOrderingAccount, isAccount, isOwnPayer, isOwnBeneficiary, isNameCodeIn, typeOf}
+use Rattle.format.specs.Rules.{daysIn, isDate, isDesiredDate, isTestCode, isIdentification, isOfDay, weighted, isEleven, isOrderingAccount, isAccount, isOwnIf, isNameCodeIn, typeOf}
 use Rattle.format.specs.Cutting.{rowsFrom}
 use Rattle.field.specs.Rows.{fieldAnswer, firstOr}
 use Rattle.record.specs.Kinds.{codeOf, debitCode, batchCode, fileCode}
@@ -16,11 +16,11 @@ use Rattle.file.specs.Cases.{Each, Right, accountCases, amountCases, sum
 
 -- a record's first fault
 accounts : Each accountCases
-unfolding pick same digitsOnto decimal valueAfter weighted isEleven isOrderingAccount isAccount isOwnPayer isOwnBeneficiary typeOf fieldAnswer firstOr firstFault faultOf
+unfolding pick same digitsOnto decimal valueAfter weighted isEleven isOrderingAccount isAccount isOwnIf typeOf fieldAnswer firstOr firstFault faultOf
 accounts = ((refl, refl), ((refl, refl), ((refl, refl), ((refl, refl), (refl, ((refl, refl), (refl, (refl, tt))))))))
 
 amounts : Each amountCases
-unfolding pick same digitsOnto decimal valueAfter weighted isEleven isOrderingAccount isAccount isOwnPayer isOwnBeneficiary typeOf fieldAnswer firstOr firstFault faultOf
+unfolding pick same digitsOnto decimal valueAfter weighted isEleven isOrderingAccount isAccount isOwnIf typeOf fieldAnswer firstOr firstFault faultOf
 amounts = (refl, (refl, (refl, (refl, tt))))
 
 sequences : Each sequenceCases
@@ -36,11 +36,11 @@ descriptions = (refl, (refl, (refl, tt)))
 
 -- lines one after the other
 sums : Each sumCases
-unfolding pick same digitsOnto decimal valueAfter weighted isEleven isOrderingAccount isAccount isOwnPayer isOwnBeneficiary typeOf fieldAnswer firstOr codeOf debitCode batchCode fileCode firstFault faultOf isKept within mayEnd mayPay allowed judgedAs judgedKind judgedLine isWhole judgedFirst stepAt
+unfolding pick same digitsOnto decimal valueAfter weighted isEleven isOrderingAccount isAccount isOwnIf typeOf fieldAnswer firstOr codeOf debitCode batchCode fileCode firstFault faultOf isKept within mayEnd mayPay allowed judgedAs judgedKind judgedLine isWhole judgedFirst stepAt
 sums = ((refl, refl, refl, refl, refl), ((refl, refl, refl, refl, refl), tt))
 
 files : Each fileCases
-unfolding pick same digitsOnto decimal valueAfter daysIn isDate isDesiredDate isTestCode isIdentification isOfDay weighted isEleven isOrderingAccount isAccount isOwnPayer isOwnBeneficiary isNameCodeIn typeOf fieldAnswer firstOr codeOf debitCode batchCode fileCode firstFault faultOf isKept within mayOpen mayFix mayEnd mayPay mayName allowed judgedAs judgedKind judgedLine isWhole judgedFirst endedAt rowsFrom linesBy linesOf restOf checkOf
+unfolding pick same digitsOnto decimal valueAfter daysIn isDate isDesiredDate isTestCode isIdentification isOfDay weighted isEleven isOrderingAccount isAccount isOwnIf isNameCodeIn typeOf fieldAnswer firstOr codeOf debitCode batchCode fileCode firstFault faultOf isKept within mayOpen mayFix mayEnd mayPay mayName allowed judgedAs judgedKind judgedLine isWhole judgedFirst endedAt rowsFrom linesBy linesOf restOf checkOf
 files = (refl, (refl, (example-reads, tt)))
 
 pub worked : Right cases

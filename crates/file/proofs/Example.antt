@@ -3,13 +3,13 @@ use mathlib.Core.Path.{refl}
 use native.Mathlib.Omega.{arith}
 use Rattle.machine.specs.Lists.{pick, same}
 use Rattle.machine.specs.Digits.{digitsOnto, decimal, valueAfter}
-use Rattle.format.specs.Rules.{isTestCode, daysIn, isDate, isDesiredDate, isIdentification, isOfDay, weighted, isEleven, isOrderingAccount, isAccount, isOwnPayer, isOwnBeneficiary, isNameCodeIn, typeOf}
+use Rattle.format.specs.Rules.{isTestCode, daysIn, isDate, isDesiredDate, isIdentification, isOfDay, weighted, isEleven, isOrderingAccount, isAccount, isOwnIf, isNameCodeIn, typeOf}
 use Rattle.format.specs.Language.{ItemOk, BatchOk, noneBefore, Valid, crlf, linesOf, Reads}
 use Rattle.format.specs.declared.Group.the-variants.{Payments}
 use Rattle.file.specs.Example.{example, salary, uncheckedSalary, exampleBatch, exampleFile}
 
 salary-ok : ItemOk Payments 123456789 salary
-unfolding same pick weighted isEleven isOrderingAccount isAccount isOwnPayer isOwnBeneficiary typeOf
+unfolding same pick weighted isEleven isOrderingAccount isAccount isOwnIf typeOf
 salary-ok =
     record {
       transaction-ok = record {
@@ -30,7 +30,7 @@ salary-ok =
     }
 
 unchecked-ok : ItemOk Payments 123456789 uncheckedSalary
-unfolding same pick weighted isEleven isOrderingAccount isAccount isOwnPayer isOwnBeneficiary typeOf
+unfolding same pick weighted isEleven isOrderingAccount isAccount isOwnIf typeOf
 unchecked-ok =
     record {
       transaction-ok = record {

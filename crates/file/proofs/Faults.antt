@@ -18,7 +18,7 @@ use Rattle.format.specs.declared.Kind.the-variants.{FileHeader, BatchHeaderB, B
 use Rattle.format.specs.declared.Group.{Group}
 use Rattle.format.proofs.Checks.{judge, Pass, Holds, fieldChecks, lineChecks, field-passed}
 use Rattle.format.proofs.Reader.{State, begin}
-use Rattle.field.specs.Rows.{Row, row, cut, firstAnswer, fieldAnswer, rowsAt, checkRows, fieldsAt, firstOr}
+use Rattle.field.specs.Rows.{Row, row, partAt, firstAnswer, fieldAnswer, rowsAt, checkRows, fieldsAt, firstOr}
 use Rattle.record.specs.declared.Fault.{Fault}
 use Rattle.record.specs.declared.Batch.{Batch}
 use Rattle.record.specs.Faults.{faultAt, noFault, firstFault, fieldsOf, testsFor, maximaFor, faultOf, groupSaid}
@@ -30,15 +30,15 @@ drop-take zero r l = let e : zero + r ≡ r = omega arith in ap (λ n. take n l)
 drop-take (suc w) r [] = ap (drop (suc w)) (take-nil (suc w + r)) ∙ sym (take-nil r)
 drop-take (suc w) r (x ∷ l) = let e : suc w + r ≡ suc (w + r) = omega arith in ap (λ n. drop (suc w) (take n (x ∷ l))) e ∙ drop-take w r l
 
-first-field : (c w r : ℕ) (xs : List ℕ) → take w (cut c (w + r) xs) ≡ cut c w xs
+first-field : (c w r : ℕ) (xs : List ℕ) → take w (partAt c (w + r) xs) ≡ partAt c w xs
 first-field c w r xs = take-take w (w + r) (drop (c - 1) xs) (omega arith)
 
-other-fields : (c w r : ℕ) (xs : List ℕ) → 1 ≤ c → drop w (cut c (w + r) xs) ≡ cut (c + w) r xs
+other-fields : (c w r : ℕ) (xs : List ℕ) → 1 ≤ c → drop w (partAt c (w + r) xs) ≡ partAt (c + w) r xs
 other-fields c w r xs h =
     let e : (c - 1) + w ≡ (c + w) - 1 = omega arith in
     drop-take w r (drop (c - 1) xs) ∙ ap (take r) (drop-drop w (c - 1) xs ∙ ap (λ n. drop n xs) e)
 
-pub fields-read : (c : ℕ) (fs : List Field) (xs : List ℕ) → 1 ≤ c → readFields fs (cut c (widths fs) xs) ≡ fieldsAt c fs xs
+pub fields-read : (c : ℕ) (fs : List Field) (xs : List ℕ) → 1 ≤ c → readFields fs (partAt c (widths fs) xs) ≡ fieldsAt c fs xs
 fields-read c [] xs h = refl
 fields-read c (f ∷ fs) xs h =
     let e = first-field c (width f) (widths fs) xs in
@@ -126,16 +126,16 @@ module _ (after : State) where
   same-field false c ts cs rows t j = refuses (fieldChecks c ts cs) rows 4 c tt
 
   same-fields : (c : ℕ) (fs : List Field) (t : Tests fs) (xs : List ℕ) (cs : List Check) (rows : List Row) → 1 ≤ c → T (allAnswered fs t) → Same cs (firstOr faultAt rows noFault)
-      → Same (lineChecks c fs t (cut c (widths fs) xs) cs) (firstOr faultAt (rowsAt c fs t xs rows) noFault)
+      → Same (lineChecks c fs t (partAt c (widths fs) xs) cs) (firstOr faultAt (rowsAt c fs t xs rows) noFault)
   unfolding fieldAnswer
   same-fields c [] t xs cs rows h z j = j
   same-fields c (f ∷ fs) t xs cs rows h z j =
       let w = width f in
       let r = widths fs in
       let m = same-fields (c + w) fs (t .1) xs cs rows (omega arith) (and-r (answered (t .0)) (allAnswered fs (t .1)) z) j in
-      subst (λ l. Same (check (wellFormed f l) 4 c ∷ fieldChecks c (t .0) (lineChecks (c + w) fs (t .1) (drop w (cut c (w + r) xs)) cs)) (firstOr faultAt (rowsAt c (f ∷ fs) t xs rows) noFault)) (sym (first-field c w r xs))
-      (subst (λ l. Same (check (wellFormed f (cut c w xs)) 4 c ∷ fieldChecks c (t .0) (lineChecks (c + w) fs (t .1) l cs)) (firstOr faultAt (rowsAt c (f ∷ fs) t xs rows) noFault)) (sym (other-fields c w r xs h))
-      (same-field (wellFormed f (cut c w xs)) c (t .0) (lineChecks (c + w) fs (t .1) (cut (c + w) r xs) cs) (rowsAt (c + w) fs (t .1) xs rows) (and-l (answered (t .0)) (allAnswered fs (t .1)) z) m))
+      subst (λ l. Same (check (wellFormed f l) 4 c ∷ fieldChecks c (t .0) (lineChecks (c + w) fs (t .1) (drop w (partAt c (w + r) xs)) cs)) (firstOr faultAt (rowsAt c (f ∷ fs) t xs rows) noFault)) (sym (first-field c w r xs))
+      (subst (λ l. Same (check (wellFormed f (partAt c w xs)) 4 c ∷ fieldChecks c (t .0) (lineChecks (c + w) fs (t .1) l cs)) (firstOr faultAt (rowsAt c (f ∷ fs) t xs rows) noFault)) (sym (other-fields c w r xs h))
+      (same-field (wellFormed f (partAt c w xs)) c (t .0) (lineChecks (c + w) fs (t .1) (partAt (c + w) r xs) cs) (rowsAt (c + w) fs (t .1) xs rows) (and-l (answered (t .0)) (allAnswered fs (t .1)) z) m))
 
   same-checks : (cs : List Check) → T (checksAnswered cs) → Same cs (firstOr faultAt (checkRows cs) noFault)
   unfolding firstOr pick
@@ -145,7 +145,7 @@ module _ (after : State) where
 
   -- A LINE OF A KIND: its first fault is the first check that fails
   pub same-faults : (said : Bool) (g : Group) (b : Batch) (k : Kind) (line : List ℕ)
-      → Same (lineChecks 6 (layout k) (testsFor said g b k (fieldsOf k line)) (cut 6 (widths (layout k)) line) (maximaFor b k (fieldsOf k line))) (faultOf said g b k line)
+      → Same (lineChecks 6 (layout k) (testsFor said g b k (fieldsOf k line)) (partAt 6 (widths (layout k)) line) (maximaFor b k (fieldsOf k line))) (faultOf said g b k line)
   unfolding faultOf firstFault
   same-faults said g b k line =
       same-fields 6 (layout k) (testsFor said g b k (fieldsOf k line)) line (maximaFor b k (fieldsOf k line)) (checkRows (maximaFor b k (fieldsOf k line))) (omega arith) (tests-answered said g b k (fieldsOf k line))
@@ -160,6 +160,6 @@ all-hold c (f ∷ fs) t l cs p = let r = field-passed c (t .0) (lineChecks (c + 
 pub faultless : (said : Bool) (g : Group) (b : Batch) (k : Kind) (line : List ℕ) → faultOf said g b k line .number ≡ 0 → Holds (layout k) (testsFor said g b k (fieldsOf k line))
 faultless said g b k line e = by (same-faults begin said g b k line) e
   where
-    by : {f : Fault} → Same begin (lineChecks 6 (layout k) (testsFor said g b k (fieldsOf k line)) (cut 6 (widths (layout k)) line) (maximaFor b k (fieldsOf k line))) f → f .number ≡ 0 → Holds (layout k) (testsFor said g b k (fieldsOf k line))
-    by (passed p) e = all-hold 6 (layout k) (testsFor said g b k (fieldsOf k line)) (cut 6 (widths (layout k)) line) (maximaFor b k (fieldsOf k line)) p
+    by : {f : Fault} → Same begin (lineChecks 6 (layout k) (testsFor said g b k (fieldsOf k line)) (partAt 6 (widths (layout k)) line) (maximaFor b k (fieldsOf k line))) f → f .number ≡ 0 → Holds (layout k) (testsFor said g b k (fieldsOf k line))
+    by (passed p) e = all-hold 6 (layout k) (testsFor said g b k (fieldsOf k line)) (partAt 6 (widths (layout k)) line) (maximaFor b k (fieldsOf k line)) p
     by (stopped c n z q) e = absurd (omega arith)

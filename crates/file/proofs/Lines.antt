@@ -26,7 +26,7 @@ use Rattle.format.proofs.Every.{kinds}
 use Rattle.format.proofs.Reader.{Room, fresh, left, Phase, opened, paying, owed, at, unnamed-payment, named-payment, open-debit, Place, file-header, first-batch-b, first-batch-c, next-batch-b, next-batch-c, fixed-description, ordering-party, first-item, next-item, batch-trailer, payment-reference, payment-description, payment-description-more, beneficiary-name, beneficiary-city, payer-name, payer-city, debit-reference, debit-description, debit-description-more, file-trailer, Choice, choices, opens, addItem, beginItem, advance, tests, maxima, kindOf, find, step}
 use Rattle.format.proofs.Reader as the
 use Rattle.format.proofs.Link.{find-code, not-ended, line-widths, step-in, step-out, kindOf-code}
-use Rattle.field.specs.Rows.{cut}
+use Rattle.field.specs.Rows.{partAt}
 use Rattle.record.specs.Kinds.{codeOf}
 use Rattle.record.specs.Faults.{fieldsOf, testsFor, maximaFor, faultOf}
 use Rattle.record.specs.Read.{transactionFor}
@@ -159,7 +159,7 @@ module _ (s : State) (line : List ℕ) (k : Kind) (e : take 5 line ≡ code k) w
   x = fieldsOf k line
 
   body : List ℕ
-  body = cut 6 (widths (layout k)) line
+  body = partAt 6 (widths (layout k)) line
 
   faults : List Check
   faults = lineChecks 6 (layout k) (testsFor (s .said) (s .group) (s .batch) k x) body (maximaFor (s .batch) k x)

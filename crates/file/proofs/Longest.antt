@@ -9,7 +9,7 @@ use lib.ListN.{length, take, drop, replicate, length-replicate, length-append, l
 use Rattle.machine.specs.Lists.{pick, same}
 use Rattle.machine.specs.Digits.{valueAfter}
 use Rattle.machine.specs.Lines.{Exactly, no-lines, one-more}
-use Rattle.format.specs.Rules.{isTestCode, daysIn, isDate, isDesiredDate, isIdentification, isOfDay, weighted, isEleven, isOrderingAccount, isAccount, isOwnPayer, isOwnBeneficiary, isNameCodeIn, typeOf, typeText}
+use Rattle.format.specs.Rules.{isTestCode, daysIn, isDate, isDesiredDate, isIdentification, isOfDay, weighted, isEleven, isOrderingAccount, isAccount, isOwnIf, isNameCodeIn, typeOf, typeText}
 use Rattle.format.specs.Language.{Item, Batch, File, totalOf, accountsOf, tenDigits, Rec, itemsRecs, batchTrailerRec, batchesRecs, fileTrailerRecs, fileRecs, ItemOk, ItemsOk, Follows, BatchOk, BatchesOk, Valid, crlf, endBytes, lineOf, linesOf, Reads}
 use Rattle.format.specs.Cutting.{Fixed, unfixed, cut, turn}
 use Rattle.format.specs.Answers.{accepted}
@@ -68,7 +68,7 @@ item =
     }
 
 item-ok : ItemOk Payments 123456789 item
-unfolding item same pick weighted isEleven isOrderingAccount isAccount isOwnPayer isOwnBeneficiary typeOf
+unfolding item same pick weighted isEleven isOrderingAccount isAccount isOwnIf typeOf
 item-ok =
     record {
       transaction-ok = record {

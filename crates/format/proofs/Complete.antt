@@ -14,7 +14,7 @@ use Rattle.format.specs.Fields.{filled, Fit, Fits}
 use Rattle.format.specs.Records.{layout, Fields}
 use Rattle.format.specs.Rules.{maxAmount, maxTotal, maxItems, maxAccount, maxSequence, maxFixed, mostDescriptions, CLIEOP03, EUR, groupText, isGroup, groupOf, typeOf, isType, isTypeIn, needsName}
 use Rattle.format.specs.Language.{Name, Item, Batch, File, totalOf, accountsOf, tenDigits, Rec, fileHeaderRec, batchHeaderRec, fixedRecs, orderingPartyRec, transactionRec, referenceRecs, descriptionRecs, cityRecs, nameRecs, itemRecs, batchesRecs, fileTrailerRecs, fileRecs, In, TransactionOk, ReferenceOk, DescriptionsOk, CityOk, NameOk, isSome, ItemOk, ItemsOk, Before, noneBefore, afterThat, Follows, BatchHeaderOk, OrderingPartyOk, BatchOk, BatchesOk, Valid}
-use Rattle.format.specs.Tests.{isNext, groupTests, batchHeaderTests, transactionTests}
+use Rattle.format.specs.Tests.{isNext, sameGroupTests, batchHeaderTests, transactionTests}
 use Rattle.format.specs.declared.Kind.the-variants.{FileHeader, BatchHeaderB, BatchHeaderC, FixedDescription, OrderingParty, Transaction, NamePayer, CityPayer, PaymentReference, Description, NameBeneficiary, CityBeneficiary, BatchTrailer, FileTrailer}
 use Rattle.format.specs.declared.Group.{Group}
 use Rattle.format.specs.declared.Group.the-variants.{Payments, Debits}
@@ -200,7 +200,7 @@ unfolding same
 group-is Payments = tt
 group-is Debits = tt
 
-agree-holds : (o : Option Group) (g : Group) → Agree o g → Hold (groupTests o (groupText g))
+agree-holds : (o : Option Group) (g : Group) → Agree o g → Hold (sameGroupTests o (groupText g))
 agree-holds none g e = tt
 agree-holds (some h) g e = (subst (λ k. T (same (groupText g) (groupText k))) (sym e) (same-refl (groupText g)), tt)
 

@@ -11,7 +11,7 @@ use Rattle.machine.specs.Lists.{pick, same}
 use Rattle.machine.specs.Digits.{valueAfter}
 use Rattle.format.specs.Fields.{filled, Fit}
 use Rattle.format.specs.Records.{layout, Fields, orderingAccount, unidentified, type, amount, payer, beneficiary}
-use Rattle.format.specs.Rules.{maxAmount, maxTotal, maxItems, maxAccount, maxFixed, isTestCode, daysIn, isDate, isDesiredDate, isIdentification, isOfDay, weighted, isEleven, isOrderingAccount, isAccount, isOwnPayer, isOwnBeneficiary, isNameCodeIn, typeText, typeOf, isTypeIn, needsName}
+use Rattle.format.specs.Rules.{maxAmount, maxTotal, maxItems, maxAccount, maxFixed, isTestCode, daysIn, isDate, isDesiredDate, isIdentification, isOfDay, weighted, isEleven, isOrderingAccount, isAccount, isOwnIf, isNameCodeIn, sameGroup, typeText, typeOf, isTypeIn, needsName}
 use Rattle.format.specs.Language.{Item, Rec, fileHeaderRec, fileTrailerRecs, In, NameOk, ItemOk, Before, noneBefore, afterThat, Follows, BatchHeaderOk, OrderingPartyOk}
 use Rattle.format.specs.Tests.{batchHeaderTests, transactionTests}
 use Rattle.format.specs.declared.Kind.{Kind}
@@ -115,15 +115,10 @@ aType Debits = Debit
 anItem : Group → ℕ → Item
 anItem g own = record { type = typeText (aType g); amount = 1; payer = own; beneficiary = own; reference = none; descriptions = []; name = none }
 
-own-payer : (g : Group) (own : ℕ) → T (isOwnPayer g own own)
-unfolding isOwnPayer
-own-payer Payments own = eqb-refl own
-own-payer Debits own = tt
-
-own-beneficiary : (g : Group) (own : ℕ) → T (isOwnBeneficiary g own own)
-unfolding isOwnBeneficiary
-own-beneficiary Payments own = tt
-own-beneficiary Debits own = eqb-refl own
+own-party : (mine : Bool) (own : ℕ) → T (isOwnIf mine own own)
+unfolding isOwnIf
+own-party true own = eqb-refl own
+own-party false own = tt
 
 type-fits : (g : Group) → Fit (filled 4) (typeText (aType g))
 unfolding aType
@@ -161,8 +156,8 @@ item-ok g own h o =
             payer-ok = is-account own o;
             beneficiary-in = h;
             beneficiary-ok = is-account own o;
-            own-payer = own-payer g own;
-            own-beneficiary = own-beneficiary g own;
+            own-payer = own-party (sameGroup Payments g) own;
+            own-beneficiary = own-party (sameGroup Debits g) own;
           };
       reference-ok = tt;
       descriptions-ok = tt;

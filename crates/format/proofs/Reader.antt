@@ -11,7 +11,7 @@ use Rattle.format.specs.Records.{layout, code, Fields, group, orderingAc
 use Rattle.format.specs.Rules.{maxFixed, groupOf, typeOf, needsName}
 use Rattle.format.specs.Language.{Rec, tenDigits, Before, noneBefore, afterThat}
 use Rattle.format.specs.Answers.{unknownRecord, misplacedRecord}
-use Rattle.format.specs.Tests.{Check, Tests, fileHeaderTests, batchHeaderTests, orderingPartyTests, transactionTests, batchTrailerTests, batchMaxima}
+use Rattle.format.specs.Tests.{Check, Tests, untested, fileHeaderTests, batchHeaderTests, orderingPartyTests, transactionTests, batchTrailerTests, batchMaxima}
 use Rattle.format.specs.declared.Kind.{Kind}
 use Rattle.format.specs.declared.Kind.the-variants.{FileHeader, BatchHeaderB, BatchHeaderC, FixedDescription, OrderingParty, Transaction, NamePayer, CityPayer, PaymentReference, Description, NameBeneficiary, CityBeneficiary, BatchTrailer, FileTrailer}
 use Rattle.format.specs.declared.Group.{Group}
@@ -181,10 +181,6 @@ advance (debit-description-more {m = m}) s x = at (owed false (left m)) s
 advance file-trailer s x = at done s
 
 -- ## What is tested
-
-abbrev pub untested : (fs : List Field) → Tests fs
-untested [] = tt
-untested (f ∷ fs) = ([], untested fs)
 
 abbrev pub tests : {p : Phase} {k : Kind} → Place p k → Context → Fields k → Tests (layout k)
 tests file-header s x = fileHeaderTests x

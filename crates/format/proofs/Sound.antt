@@ -14,7 +14,7 @@ use Rattle.format.specs.Fields.{filled, Fit, Fits}
 use Rattle.format.specs.Records.{layout, Fields, creationDate, fileName, sender, identification, duplicateCode, group, orderingAccount, sequence, currency, batchIdentification, unidentified, nameCode, desiredDate, partyName, testCode, type, amount, payer, beneficiary, totalAmount, totalAccounts, items}
 use Rattle.format.specs.Rules.{maxAmount, maxTotal, maxItems, maxAccount, maxSequence, maxFixed, mostDescriptions, CLIEOP03, EUR, groupText, isGroup, groupOf, typeOf, needsName}
 use Rattle.format.specs.Language.{Name, Item, Batch, File, totalOf, accountsOf, tenDigits, Rec, fileHeaderRec, batchHeaderRec, fixedRecs, transactionRec, referenceRecs, descriptionRecs, cityRecs, nameRecs, itemRecs, itemsRecs, batchTrailerRec, batchesRecs, fileTrailerRecs, fileRecs, In, TransactionOk, ReferenceOk, DescriptionsOk, CityOk, NameOk, isSome, ItemOk, ItemsOk, Before, afterThat, Follows, IdentificationOk, BatchHeaderOk, OrderingPartyOk, BatchesOk, FileHeaderOk, Valid}
-use Rattle.format.specs.Tests.{isNext, groupTests, batchHeaderTests, transactionTests, batchTrailerTests}
+use Rattle.format.specs.Tests.{isNext, sameGroupTests, batchHeaderTests, transactionTests, batchTrailerTests}
 use Rattle.format.specs.declared.Kind.{Kind}
 use Rattle.format.specs.declared.Kind.the-variants.{FileHeader, BatchHeaderB, BatchHeaderC, FixedDescription, OrderingParty, Transaction, NamePayer, PaymentReference, Description, NameBeneficiary, BatchTrailer, FileTrailer}
 use Rattle.format.specs.declared.Group.{Group}
@@ -285,7 +285,7 @@ unfolding pick same
 group-back Payments = refl
 group-back Debits = refl
 
-agreed : (o : Option Group) (t : List ℕ) → Hold (groupTests o t) → Agree o (groupOf t)
+agreed : (o : Option Group) (t : List ℕ) → Hold (sameGroupTests o t) → Agree o (groupOf t)
 agreed none t h = tt
 agreed (some g) t h = sym (ap groupOf (same→eq t (groupText g) (h .0)) ∙ group-back g)
 

@@ -8,7 +8,7 @@ use lib.ListN.{length}
 use lib.Dec.{T}
 use Rattle.format.specs.Fields.{filled, optional, free, writeFields, Fit}
 use Rattle.format.specs.Records.{layout, code, Fields}
-use Rattle.format.specs.Rules.{maxAmount, maxTotal, maxItems, maxAccount, maxSequence, maxFixed, mostDescriptions, CLIEOP03, EUR, isTestCode, isDate, isDesiredDate, isIdentification, isOfDay, isOrderingAccount, isAccount, isOwnPayer, isOwnBeneficiary, groupText, isNameCodeIn, typeOf, isTypeIn, needsName}
+use Rattle.format.specs.Rules.{maxAmount, maxTotal, maxItems, maxAccount, maxSequence, maxFixed, mostDescriptions, CLIEOP03, EUR, isTestCode, isDate, isDesiredDate, isIdentification, isOfDay, isOrderingAccount, isAccount, isOwnIf, sameGroup, groupText, isNameCodeIn, typeOf, isTypeIn, needsName}
 use Rattle.format.specs.declared.Kind.{Kind}
 use Rattle.format.specs.declared.Kind.the-variants.{FileHeader, BatchHeaderB, BatchHeaderC, FixedDescription, OrderingParty, Transaction, NamePayer, CityPayer, PaymentReference, Description, NameBeneficiary, CityBeneficiary, BatchTrailer, FileTrailer}
 use Rattle.format.specs.declared.Group.{Group}
@@ -143,8 +143,8 @@ pub record TransactionOk (g : Group) (account : ℕ) (type : List ℕ) (amount p
   pub payer-ok : T (isAccount payer)
   pub beneficiary-in : In 1 maxAccount beneficiary
   pub beneficiary-ok : T (isAccount beneficiary)
-  pub own-payer : T (isOwnPayer g account payer)
-  pub own-beneficiary : T (isOwnBeneficiary g account beneficiary)
+  pub own-payer : T (isOwnIf (sameGroup Payments g) account payer)
+  pub own-beneficiary : T (isOwnIf (sameGroup Debits g) account beneficiary)
 
 abbrev pub ReferenceOk : Option (List ℕ) → Type 0
 ReferenceOk none = Unit {0}

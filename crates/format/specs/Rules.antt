@@ -98,14 +98,10 @@ isOrderingAccount n = leb 100000000 n && isEleven n
 unfoldable pub isAccount : ℕ → Bool
 isAccount n = leb n 9999999 || isOrderingAccount n
 
--- 'Payer (group 00) or beneficiary (group 10) equals the ordering account'
-unfoldable pub isOwnPayer : Group → ℕ → ℕ → Bool
-isOwnPayer Payments own n = eqb n own
-isOwnPayer Debits own n = true
-
-unfoldable pub isOwnBeneficiary : Group → ℕ → ℕ → Bool
-isOwnBeneficiary Payments own n = true
-isOwnBeneficiary Debits own n = eqb n own
+-- 'Payer (group 00) or beneficiary (group 10) equals the ordering account': the own account, where it has to be
+unfoldable pub isOwnIf : Bool → ℕ → ℕ → Bool
+isOwnIf true own n = eqb n own
+isOwnIf false own n = true
 
 -- ## Groups and types
 

@@ -7,10 +7,11 @@ use lib.Dec.{leb, ltb, eqb}
 use Rattle.machine.specs.Lists.{same, inRange}
 use Rattle.format.specs.Fields.{Field}
 use Rattle.format.specs.Records.{layout, Fields, creationDate, fileName, identification, duplicateCode, group, orderingAccount, sequence, currency, nameCode, desiredDate, testCode, type, amount, payer, beneficiary, totalAmount, totalAccounts, items}
-use Rattle.format.specs.Rules.{maxAmount, maxTotal, maxItems, maxAccount, maxSequence, CLIEOP03, EUR, isTestCode, isDate, isDesiredDate, isIdentification, isOfDay, isOrderingAccount, isAccount, isOwnPayer, isOwnBeneficiary, groupText, isGroup, isNameCodeIn, typeOf, isType, isTypeIn}
+use Rattle.format.specs.Rules.{maxAmount, maxTotal, maxItems, maxAccount, maxSequence, CLIEOP03, EUR, isTestCode, isDate, isDesiredDate, isIdentification, isOfDay, isOrderingAccount, isAccount, isOwnIf, sameGroup, groupText, isGroup, isNameCodeIn, typeOf, isType, isTypeIn}
 use Rattle.format.specs.Answers.{wrongValue, wrongAccount, differs, aboveMaximum, wrongTrailer}
 use Rattle.format.specs.declared.Kind.the-variants.{FileHeader, BatchHeaderB, OrderingParty, Transaction, BatchTrailer}
 use Rattle.format.specs.declared.Group.{Group}
+use Rattle.format.specs.declared.Group.the-variants.{Payments, Debits}
 use Rattle.format.specs.declared.TypeRead.{TypeRead}
 
 -- a test of a value, and the answer where it fails
@@ -21,83 +22,97 @@ pub data Test : Type 0 where
 pub data Check : Type 0 where
   check : Bool → ℕ → ℕ → Check
 
--- the tests of each field of a record
-abbrev pub Tests : List Field → Type 0
-Tests [] = Unit {0}
-Tests (f ∷ fs) = List Test × Tests fs
+-- ## The tests of each field by what they need and its value
 
-abbrev pub fileHeaderTests : Fields FileHeader → Tests (layout FileHeader)
-fileHeaderTests x = (
-  test (isDate (creationDate x)) wrongValue ∷ [],
-  (
-    test (same (fileName x) CLIEOP03) wrongValue ∷ [],
-    (
-      [],
-      (
-        test (isIdentification (identification x)) wrongValue ∷ test (isOfDay (creationDate x) (identification x)) differs ∷ [],
-        (test (inRange 1 2 (duplicateCode x)) wrongValue ∷ [], ([], tt)),
-      ),
-    ),
-  ),
-)
+abbrev pub rangeTests : ℕ → ℕ → ℕ → List Test
+rangeTests low high v = test (inRange low high v) wrongValue ∷ []
 
--- 'Group is 00 or 10, the same throughout the file': the group so far, if any
+-- a text that has to be this one
+abbrev pub textTests : List ℕ → List ℕ → List Test
+textTests text t = test (same t text) wrongValue ∷ []
+
+abbrev pub dateTests : ℕ → List Test
+dateTests v = test (isDate v) wrongValue ∷ []
+
+abbrev pub desiredTests : ℕ → List Test
+desiredTests v = test (isDesiredDate v) wrongValue ∷ []
+
+-- by the creation date
+abbrev pub identificationTests : ℕ → List ℕ → List Test
+identificationTests created t = test (isIdentification t) wrongValue ∷ test (isOfDay created t) differs ∷ []
+
+abbrev pub duplicateTests : ℕ → List Test
+duplicateTests v = rangeTests 1 2 v
+
+-- 'the same throughout the file': the group so far, if any
+abbrev pub sameGroupTests : Option Group → List ℕ → List Test
+sameGroupTests none t = []
+sameGroupTests (some g) t = test (same t (groupText g)) differs ∷ []
+
+-- 'Group is 00 or 10'
 abbrev pub groupTests : Option Group → List ℕ → List Test
-groupTests none t = []
-groupTests (some g) t = test (same t (groupText g)) differs ∷ []
+groupTests g t = test (isGroup t) wrongValue ∷ sameGroupTests g t
+
+abbrev pub orderingTests : ℕ → List Test
+orderingTests v = test (inRange 1 maxAccount v) wrongValue ∷ test (isOrderingAccount v) wrongAccount ∷ []
 
 -- the number before, 0 for none
 abbrev pub isNext : ℕ → ℕ → Bool
 isNext before n = eqb before 0 || eqb n (suc before)
 
-abbrev pub batchHeaderTests : Option Group → ℕ → Fields BatchHeaderB → Tests (layout BatchHeaderB)
-batchHeaderTests g before x = (
-  test (isGroup (group x)) wrongValue ∷ groupTests g (group x),
-  (
-    test (inRange 1 maxAccount (orderingAccount x)) wrongValue ∷ test (isOrderingAccount (orderingAccount x)) wrongAccount ∷ [],
-    (
-      test (inRange 1 maxSequence (sequence x)) wrongValue ∷ test (isNext before (sequence x)) differs ∷ [],
-      (test (same (currency x) EUR) wrongValue ∷ [], ([], ([], tt))),
-    ),
-  ),
-)
+abbrev pub sequenceTests : ℕ → ℕ → List Test
+sequenceTests before v = test (inRange 1 maxSequence v) wrongValue ∷ test (isNext before v) differs ∷ []
 
-abbrev pub orderingPartyTests : Group → Fields OrderingParty → Tests (layout OrderingParty)
-orderingPartyTests g x = (
-  test (inRange 1 2 (nameCode x)) wrongValue ∷ test (isNameCodeIn g (nameCode x)) differs ∷ [],
-  (
-    test (isDesiredDate (desiredDate x)) wrongValue ∷ [],
-    ([], (test (isTestCode (testCode x)) wrongValue ∷ [], ([], tt))),
-  ),
-)
+abbrev pub nameCodeTests : Group → ℕ → List Test
+nameCodeTests g v = test (inRange 1 2 v) wrongValue ∷ test (isNameCodeIn g v) differs ∷ []
+
+abbrev pub testCodeTests : List ℕ → List Test
+testCodeTests t = test (isTestCode t) wrongValue ∷ []
 
 -- 'A type that isn't one of the six is 5, a type of the other group 7'
 abbrev pub typeTests : Group → TypeRead → List Test
 typeTests g t = test (isType t) wrongValue ∷ test (isTypeIn g t) differs ∷ []
 
+abbrev pub amountTests : ℕ → List Test
+amountTests v = rangeTests 1 maxAmount v
+
+-- by whether it has to be the own account
+abbrev pub partyTests : Bool → ℕ → ℕ → List Test
+partyTests mine own v = test (inRange 1 maxAccount v) wrongValue ∷ test (isAccount v) wrongAccount ∷ test (isOwnIf mine own v) differs ∷ []
+
+-- a trailer's number, which may be zero or not
+abbrev pub equalTests : ℕ → ℕ → List Test
+equalTests right v = test (eqb v right) wrongTrailer ∷ []
+
+abbrev pub totalTests : ℕ → ℕ → ℕ → ℕ → List Test
+totalTests low high right v = test (inRange low high v) wrongValue ∷ equalTests right v
+
+-- ## The tests of each record
+
+-- the tests of each field of a record
+abbrev pub Tests : List Field → Type 0
+Tests [] = Unit {0}
+Tests (f ∷ fs) = List Test × Tests fs
+
+abbrev pub untested : (fs : List Field) → Tests fs
+untested [] = tt
+untested (f ∷ fs) = ([], untested fs)
+
+abbrev pub fileHeaderTests : Fields FileHeader → Tests (layout FileHeader)
+fileHeaderTests x = (dateTests (creationDate x), (textTests CLIEOP03 (fileName x), ([], (identificationTests (creationDate x) (identification x), (duplicateTests (duplicateCode x), ([], tt))))))
+
+abbrev pub batchHeaderTests : Option Group → ℕ → Fields BatchHeaderB → Tests (layout BatchHeaderB)
+batchHeaderTests g before x = (groupTests g (group x), (orderingTests (orderingAccount x), (sequenceTests before (sequence x), (textTests EUR (currency x), ([], ([], tt))))))
+
+abbrev pub orderingPartyTests : Group → Fields OrderingParty → Tests (layout OrderingParty)
+orderingPartyTests g x = (nameCodeTests g (nameCode x), (desiredTests (desiredDate x), ([], (testCodeTests (testCode x), ([], tt)))))
+
 abbrev pub transactionTests : Group → ℕ → Fields Transaction → Tests (layout Transaction)
-transactionTests g own x = (
-  typeTests g (typeOf (type x)),
-  (
-    test (inRange 1 maxAmount (amount x)) wrongValue ∷ [],
-    (
-      test (inRange 1 maxAccount (payer x)) wrongValue ∷ test (isAccount (payer x)) wrongAccount ∷ test (isOwnPayer g own (payer x)) differs ∷ [],
-      (
-        test (inRange 1 maxAccount (beneficiary x)) wrongValue ∷ test (isAccount (beneficiary x)) wrongAccount ∷ test (isOwnBeneficiary g own (beneficiary x)) differs ∷ [],
-        ([], tt),
-      ),
-    ),
-  ),
-)
+transactionTests g own x =
+    (typeTests g (typeOf (type x)), (amountTests (amount x), (partyTests (sameGroup Payments g) own (payer x), (partyTests (sameGroup Debits g) own (beneficiary x), ([], tt)))))
 
 abbrev pub batchTrailerTests : ℕ → ℕ → ℕ → Fields BatchTrailer → Tests (layout BatchTrailer)
-batchTrailerTests total accounts count x = (
-  test (inRange 1 maxTotal (totalAmount x)) wrongValue ∷ test (eqb (totalAmount x) total) wrongTrailer ∷ [],
-  (
-    test (eqb (totalAccounts x) accounts) wrongTrailer ∷ [],
-    (test (inRange 1 maxItems (items x)) wrongValue ∷ test (eqb (items x) count) wrongTrailer ∷ [], ([], tt)),
-  ),
-)
+batchTrailerTests total accounts count x = (totalTests 1 maxTotal total (totalAmount x), (equalTests accounts (totalAccounts x), (totalTests 1 maxItems count (items x), ([], tt))))
 
 -- the maxima of a batch, after the fields of a transaction: 'item 100,001, column 1; batch total above its maximum, column 10'
 abbrev pub batchMaxima : ℕ → ℕ → ℕ → List Check

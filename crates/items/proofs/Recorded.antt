@@ -22,7 +22,7 @@ use Rattle.machine.specs.Lists.{pick, all, same, isDigit}
 use Rattle.machine.proofs.Base.{and-first, yes}
 use Rattle.machine.proofs.Digits.{length-decimal, decimal-digits, value-decimal}
 use Rattle.machine.specs.Digits.{decimal}
-use Rattle.field.specs.Rows.{cut}
+use Rattle.field.specs.Rows.{partAt}
 use Rattle.field.specs.declared.numbers.Digits.{Digits}
 use Rattle.field.proofs.Numerics.{digits-are}
 use Rattle.record.specs.Read.{transactionFor, valueIn, valuesAt, valuesOf}
@@ -48,9 +48,9 @@ values-back c (f ∷ fs) x before z p l n h =
     let vs : List ℕ = writeFields fs (x .1) in
     let line : List ℕ = before ++ ((v ++ vs) ++ z) in
     let w : length v ≡ width f = field-read f (x .0) (h .0) .2 in
-    let a : cut c (width f) line ≡ v = ap (take (width f)) (drop-at before ((v ++ vs) ++ z) (c - 1) l ∙ append-assoc v vs z) ∙ take-at v (vs ++ z) (width f) w in
+    let a : partAt c (width f) line ≡ v = ap (take (width f)) (drop-at before ((v ++ vs) ++ z) (c - 1) l ∙ append-assoc v vs z) ∙ take-at v (vs ++ z) (width f) w in
     let b : line ≡ (before ++ v) ++ (vs ++ z) = ap (λ y. before ++ y) (append-assoc v vs z) ∙ sym (append-assoc before v (vs ++ z)) in
-    let first : valueIn f (cut c (width f) line) ≡ x .0 = ap (valueIn f) a ∙ value-back f (x .0) (narrow-first f fs n) (h .0) in
+    let first : valueIn f (partAt c (width f) line) ≡ x .0 = ap (valueIn f) a ∙ value-back f (x .0) (narrow-first f fs n) (h .0) in
     let rest : valuesAt (c + width f) fs line ≡ x .1
     = ap (valuesAt (c + width f) fs) b ∙ values-back (c + width f) fs (x .1) (before ++ v) z (omega arith) (rw length-append (omega arith)) (narrow-rest f fs n) (h .1) in
     λ i. (first i, rest i)

@@ -16,7 +16,7 @@ use Rattle.machine.proofs.Base.{and-first, and-second, true≢false}
 use Rattle.format.specs.Fields.{Field, numeric, filled, filler, width, wellFormed}
 use Rattle.format.specs.Answers.{wrongValue, wrongAccount, differs, aboveMaximum}
 use Rattle.format.specs.Records.{layout, Fields, group, sequence, unidentified, type, amount}
-use Rattle.format.specs.Rules.{maxAmount, maxTotal, maxItems, maxAccount, maxSequence, EUR, isGroup, isOrderingAccount, isIdentification, isOfDay, isNameCodeIn, isAccount, isOwnPayer, isOwnBeneficiary, sameGroup, typeOf, isType}
+use Rattle.format.specs.Rules.{maxAmount, maxTotal, maxItems, maxAccount, maxSequence, EUR, isGroup, isOrderingAccount, isIdentification, isOfDay, isNameCodeIn, isAccount, isOwnIf, sameGroup, typeOf, isType}
 use Rattle.format.specs.Tests.{Test, test, Tests, isNext, groupTests, typeTests, transactionTests, fileHeaderTests, orderingPartyTests, batchTrailerTests}
 use Rattle.format.specs.declared.Kind.{Kind}
 use Rattle.format.specs.declared.Kind.the-variants.{FileHeader, BatchHeaderB, BatchHeaderC, FixedDescription, OrderingParty, Transaction, NamePayer, CityPayer, PaymentReference, Description, NameBeneficiary, CityBeneficiary, BatchTrailer, FileTrailer}
@@ -26,7 +26,7 @@ use Rattle.format.specs.declared.TypeRead.{TypeRead}
 use Rattle.format.specs.declared.TypeRead.the-variants.{Of, NoType}
 use Rattle.field.specs.declared.numbers.Digits.{Digits}
 use Rattle.field.specs.declared.numbers.Numeric.{Numeric}
-use Rattle.field.specs.Rows.{Row, row, cut, firstAnswer, fieldAnswer, rowsAt, checkRows, firstOr}
+use Rattle.field.specs.Rows.{Row, row, partAt, firstAnswer, fieldAnswer, rowsAt, checkRows, firstOr}
 use Rattle.field.specs.Leaf.{digitsOf, numericAnswer, numericOf, rangeTests, dateTests, isOwnIf, partyTests}
 use Rattle.field.proofs.Rows.{row-next, row-none, rows-passed, no-row, of-value, ranged-row, party-row}
 use Rattle.record.specs.declared.Fault.{Fault}
@@ -240,7 +240,7 @@ all-taken g own l h t k k0 a a0 p p0 b b0 f f0 =
 split-rows : {A : Type 0} (f : ℕ → ℕ → A) (a : A) (c : ℕ) (fs : List Field) (t : Tests fs) (xs : List ℕ) (k : List Row) → firstOr f (rowsAt c fs t xs k) a ≡ firstOr f (rowsAt c fs t xs []) (firstOr f k a)
 unfolding firstOr
 split-rows f a c [] t xs k = refl
-split-rows f a c (g ∷ fs) t xs k = ap (λ r. pick (eqb (fieldAnswer g (t .0) (cut c (width g) xs)) 0) r (f c (fieldAnswer g (t .0) (cut c (width g) xs)))) (split-rows f a (c + width g) fs (t .1) xs k)
+split-rows f a c (g ∷ fs) t xs k = ap (λ r. pick (eqb (fieldAnswer g (t .0) (partAt c (width g) xs)) 0) r (f c (fieldAnswer g (t .0) (partAt c (width g) xs)))) (split-rows f a (c + width g) fs (t .1) xs k)
 
 module _ (good : TransactionRead) (z : good .number ≡ 0) where
   -- the same rows as a fault
@@ -427,7 +427,7 @@ field-small f ts l h = by (wellFormed f l)
 rows-small : (c : ℕ) (fs : List Field) (t : Tests fs) (xs : List ℕ) (k : List Row) → smallAll fs t ≡ true → Small k → Small (rowsAt c fs t xs k)
 rows-small c [] t xs k h s = s
 rows-small c (f ∷ fs) t xs k h s =
-    (field-small f (t .0) (cut c (width f) xs) (and-first (smallTests (t .0)) (smallAll fs (t .1)) h), rows-small (c + width f) fs (t .1) xs k (and-second (smallTests (t .0)) (smallAll fs (t .1)) h) s)
+    (field-small f (t .0) (partAt c (width f) xs) (and-first (smallTests (t .0)) (smallAll fs (t .1)) h), rows-small (c + width f) fs (t .1) xs k (and-second (smallTests (t .0)) (smallAll fs (t .1)) h) s)
 
 group-small : (said : Bool) (g : Group) (t : List ℕ) → smallTests (groupTests (groupSaid said g) t) ≡ true
 group-small true g t = refl

@@ -23,7 +23,7 @@ use Rattle.format.specs.declared.TypeRead.{TypeRead}
 use Rattle.format.specs.declared.TypeRead.the-variants.{Of}
 use Rattle.format.proofs.Checks.{read-field}
 use Rattle.field.specs.declared.numbers.Digits.{Digits}
-use Rattle.field.specs.Rows.{Row, cut, firstAnswer, fieldAnswer, rowsAt, checkRows, fieldsAt, firstOr}
+use Rattle.field.specs.Rows.{Row, partAt, firstAnswer, fieldAnswer, rowsAt, checkRows, fieldsAt, firstOr}
 use Rattle.field.specs.Leaf.{noDigits, digitsOf}
 use Rattle.field.proofs.Numerics.{digits-are}
 use Rattle.record.specs.Faults.{faultAt, noFault, firstFault, fieldsOf, testsFor, maximaFor, faultOf}
@@ -118,7 +118,7 @@ formed c [] t xs k h z = refl
 formed c (f ∷ fs) t xs k h z = by (eqb n 0) refl (formed (c + width f) fs (t .1) xs k (narrow-rest f fs h)) z
   where
     n : ℕ
-    n = fieldAnswer f (t .0) (cut c (width f) xs)
+    n = fieldAnswer f (t .0) (partAt c (width f) xs)
 
     rest : Fault
     rest = firstOr faultAt (rowsAt (c + width f) fs (t .1) xs k) noFault

@@ -12,7 +12,7 @@ use Rattle.format.specs.declared.Kind.the-variants.{FileHeader, BatchHeaderB, B
 use Rattle.format.specs.declared.Group.{Group}
 use Rattle.format.specs.declared.TypeRead.{TypeRead}
 use Rattle.format.specs.declared.TypeRead.the-variants.{Of, NoType}
-use Rattle.field.specs.Rows.{cut, rowsAt, firstOr}
+use Rattle.field.specs.Rows.{partAt, rowsAt, firstOr}
 use Rattle.field.specs.Leaf.{digitsOf}
 use Rattle.record.specs.Faults.{fieldsOf}
 use Rattle.record.specs.declared.TransactionFields.{TransactionFields}
@@ -98,7 +98,7 @@ valueIn (filler w) l = tt
 
 abbrev pub valuesAt : ℕ → (fs : List Field) → List ℕ → Values fs
 valuesAt c [] line = tt
-valuesAt c (f ∷ fs) line = (valueIn f (cut c (width f) line), valuesAt (c + width f) fs line)
+valuesAt c (f ∷ fs) line = (valueIn f (partAt c (width f) line), valuesAt (c + width f) fs line)
 
 abbrev pub valuesOf : (k : Kind) → List ℕ → Fields k
 valuesOf k line = valuesAt 6 (layout k) line

@@ -64,7 +64,7 @@ fn last(number: u8, column: u8) -> Fault
 
 // The creation day, then a counter 01 to 99.
 fn identification_answer(line: &[u8], created: u64) -> u8
-    ensures { λ r. ⌜ r ≡ fieldAnswer (filled 4) (test (isIdentification (take 4 (drop 24 (now (line .entry))))) wrongValue ∷ test (isOfDay created (take 4 (drop 24 (now (line .entry))))) differs ∷ []) (take 4 (drop 24 (now (line .entry)))) ⌝ }
+    ensures { λ r. ⌜ r ≡ answerAt 25 (filled 4) (identificationTests created) (now (line .entry)) ⌝ }
 {
     let f = filled_answer(line, 24, 4);
     if f != 0 {
@@ -113,7 +113,7 @@ fn file_header(line: &[u8]) -> Fault
 
 // A number from 1 to 9999, and the one after that before it where there is one.
 fn sequence_answer(line: &[u8], before: u64) -> u8
-    ensures { λ r. ⌜ r ≡ fieldAnswer (numeric 4) (test (inRange 1 maxSequence (valueOf (take 4 (drop 17 (now (line .entry)))))) wrongValue ∷ test (isNext before (valueOf (take 4 (drop 17 (now (line .entry)))))) differs ∷ []) (take 4 (drop 17 (now (line .entry)))) ⌝ }
+    ensures { λ r. ⌜ r ≡ answerAt 18 (numeric 4) (sequenceTests before) (now (line .entry)) ⌝ }
 {
     let n = ranged(line, 17, 4, 1, Batch::MAX_SEQUENCE);
     if n.number != 0 {
@@ -131,7 +131,7 @@ fn sequence_answer(line: &[u8], before: u64) -> u8
 
 // Filled for variant C, blank for B.
 fn batch_identification_answer(line: &[u8], identified: bool) -> u8
-    ensures { λ r. ⌜ r ≡ pick identified (fieldAnswer (filled 16) [] (take 16 (drop 24 (now (line .entry))))) (fieldAnswer (filler 16) [] (take 16 (drop 24 (now (line .entry))))) ⌝ }
+    ensures { λ r. ⌜ r ≡ batchIdentificationAnswer identified (now (line .entry)) ⌝ }
 {
     if identified {
         filled_answer(line, 24, 16)
@@ -167,7 +167,7 @@ fn batch_header(line: &[u8], identified: bool, said: bool, group: Group, before:
 }
 
 fn name_code_answer(line: &[u8], group: Group) -> u8
-    ensures { λ r. ⌜ r ≡ fieldAnswer (numeric 1) (test (inRange 1 2 (valueOf (take 1 (drop 5 (now (line .entry)))))) wrongValue ∷ test (isNameCodeIn group (valueOf (take 1 (drop 5 (now (line .entry)))))) differs ∷ []) (take 1 (drop 5 (now (line .entry)))) ⌝ }
+    ensures { λ r. ⌜ r ≡ answerAt 6 (numeric 1) (nameCodeTests group) (now (line .entry)) ⌝ }
 {
     let n = ranged(line, 5, 1, 1, 2);
     if n.number != 0 {
@@ -180,7 +180,7 @@ fn name_code_answer(line: &[u8], group: Group) -> u8
 }
 
 fn test_code_answer(line: &[u8]) -> u8
-    ensures { λ r. ⌜ r ≡ fieldAnswer (filled 1) (test (isTestCode (take 1 (drop 47 (now (line .entry))))) wrongValue ∷ []) (take 1 (drop 47 (now (line .entry)))) ⌝ }
+    ensures { λ r. ⌜ r ≡ answerAt 48 (filled 1) testCodeTests (now (line .entry)) ⌝ }
 {
     let f = filled_answer(line, 47, 1);
     if f != 0 {
@@ -238,19 +238,19 @@ fn is_debits(g: Group) -> bool
 }
 
 fn amount_in(line: &[u8]) -> Numeric
-    ensures { λ r. ⌜ r ≡ numericOf (rangeTests 1 maxAmount) (take 12 (drop 9 (now (line .entry)))) ⌝ }
+    ensures { λ r. ⌜ r ≡ numericOf amountTests (partAt 10 12 (now (line .entry))) ⌝ }
 {
     in_range(digits_at(line, 9, 12), 1, Transaction::MAX_AMOUNT)
 }
 
 fn payer_in(line: &[u8], group: Group, own: u64) -> Numeric
-    ensures { λ r. ⌜ r ≡ numericOf (partyTests (sameGroup Payments group) own) (take 10 (drop 21 (now (line .entry)))) ⌝ }
+    ensures { λ r. ⌜ r ≡ numericOf (partyTests (sameGroup Payments group) own) (partAt 22 10 (now (line .entry))) ⌝ }
 {
     party(line, 21, is_payments(group), own)
 }
 
 fn beneficiary_in(line: &[u8], group: Group, own: u64) -> Numeric
-    ensures { λ r. ⌜ r ≡ numericOf (partyTests (sameGroup Debits group) own) (take 10 (drop 31 (now (line .entry)))) ⌝ }
+    ensures { λ r. ⌜ r ≡ numericOf (partyTests (sameGroup Debits group) own) (partAt 32 10 (now (line .entry))) ⌝ }
 {
     party(line, 31, is_debits(group), own)
 }

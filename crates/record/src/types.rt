@@ -17,7 +17,7 @@ use format::TypeRead;
 use format::codes;
 
 pub fn group_in(line: &[u8]) -> Group
-    ensures { λ r. ⌜ r ≡ groupOf (take 2 (drop 5 (now (line .entry)))) ⌝ }
+    ensures { λ r. ⌜ r ≡ groupOf (partAt 6 2 (now (line .entry))) ⌝ }
 {
     if is_same(part(line, 5, 2), &codes::GROUP_PAYMENTS) {
         Group::Payments
@@ -61,7 +61,7 @@ pub fn group_text(group: Group) -> [u8; 2]
 
 // A group, and the one so far where that is said.
 pub(crate) fn group_answer(line: &[u8], said: bool, group: Group) -> u8
-    ensures { λ r. ⌜ r ≡ fieldAnswer (filled 2) (test (isGroup (take 2 (drop 5 (now (line .entry))))) wrongValue ∷ groupTests (groupSaid said group) (take 2 (drop 5 (now (line .entry))))) (take 2 (drop 5 (now (line .entry)))) ⌝ }
+    ensures { λ r. ⌜ r ≡ answerAt 6 (filled 2) (groupTests (groupSaid said group)) (now (line .entry)) ⌝ }
 {
     let f = filled_answer(line, 5, 2);
     if f != 0 {
@@ -121,7 +121,7 @@ fn type_of(s: &[u8]) -> TypeRead
 }
 
 pub(crate) fn type_in(line: &[u8]) -> TypeRead
-    ensures { λ r. ⌜ r ≡ typeOf (take 4 (drop 5 (now (line .entry)))) ⌝ }
+    ensures { λ r. ⌜ r ≡ typeOf (partAt 6 4 (now (line .entry))) ⌝ }
 {
     type_of(part(line, 5, 4))
 }
@@ -177,7 +177,7 @@ fn type_fault(t: TypeRead, group: Group) -> u8
 
 // A type of the group; t is what its characters stand for.
 pub(crate) fn type_answer(line: &[u8], t: TypeRead, group: Group) -> u8
-    ensures { λ r. ⌜ r ≡ fieldAnswer (filled 4) (typeTests group t) (take 4 (drop 5 (now (line .entry)))) ⌝ }
+    ensures { λ r. ⌜ r ≡ fieldAnswer (filled 4) (typeTests group t) (partAt 6 4 (now (line .entry))) ⌝ }
 {
     let f = filled_answer(line, 5, 4);
     if f != 0 {

@@ -21,7 +21,7 @@ use Rattle.format.specs.declared.Code.{Code}
 use Rattle.format.specs.declared.Code.the-variants.{Of, Unknown}
 use Rattle.format.proofs.Checks.{Hold, Holds, read-field}
 use Rattle.format.proofs.Link.{line-widths}
-use Rattle.field.specs.Rows.{Row, cut, firstAnswer, fieldAnswer, rowsAt, checkRows, fieldsAt, firstOr}
+use Rattle.field.specs.Rows.{Row, partAt, firstAnswer, fieldAnswer, rowsAt, checkRows, fieldsAt, firstOr}
 use Rattle.field.proofs.Numerics.{Numbered}
 use Rattle.record.specs.Kinds.{codeOf}
 use Rattle.record.specs.Faults.{faultAt, noFault, firstFault, fieldsOf, groupSaid, testsFor, maximaFor, faultOf}
@@ -63,16 +63,16 @@ faultless c [] t xs k p h n z = record { fits = tt; holds = tt; is = refl }
 faultless c (f ∷ fs) t xs k p h n z = by (eqb no 0) refl (faultless (c + width f) fs (t .1) xs k (omega arith) (omega arith) (n .1)) z
   where
     no : ℕ
-    no = fieldAnswer f (t .0) (cut c (width f) xs)
+    no = fieldAnswer f (t .0) (partAt c (width f) xs)
 
     rest : Fault
     rest = firstOr faultAt (rowsAt (c + width f) fs (t .1) xs k) noFault
 
     by : (q : Bool) → eqb no 0 ≡ q → (rest .number ≡ 0 → Faultless (c + width f) fs (t .1) xs) → pick q rest (faultAt c no) .number ≡ 0 → Faultless c (f ∷ fs) t xs
     by true e again y =
-        let a = is-formed f (t .0) (cut c (width f) xs) (eqb-true no 0 e) in
-        let long : length (cut c (width f) xs) ≡ width f = length-take-le (width f) (drop (c - 1) xs) (rw length-drop (omega arith)) in
-        let m = read-field f (cut c (width f) xs) long (of-eq _ (a .0)) in
+        let a = is-formed f (t .0) (partAt c (width f) xs) (eqb-true no 0 e) in
+        let long : length (partAt c (width f) xs) ≡ width f = length-take-le (width f) (drop (c - 1) xs) (rw length-drop (omega arith)) in
+        let m = read-field f (partAt c (width f) xs) long (of-eq _ (a .0)) in
         let r = again y in
         let q : (c - 1) + width f ≡ c + width f - 1 = omega arith in
         record {

@@ -2,7 +2,7 @@
 use mathlib.Core.Path.{refl}
 use Rattle.machine.specs.Lists.{pick, same}
 use Rattle.machine.specs.Digits.{digitsOnto, decimal, valueAfter}
-use Rattle.format.specs.Rules.{daysIn, isDate, isDesiredDate, isTestCode, isIdentification, isOfDay, weighted, isEleven, isOrderingAccount, isAccount, isOwnPayer, isOwnBeneficiary, typeOf}
+use Rattle.format.specs.Rules.{daysIn, isDate, isDesiredDate, isTestCode, isIdentification, isOfDay, weighted, isEleven, isOrderingAccount, isAccount, isOwnIf, typeOf}
 use Rattle.field.specs.Rows.{fieldAnswer, firstOr}
 use Rattle.field.specs.Leaf.{digitsOf}
 use Rattle.record.specs.Kinds.{codeOf, debitCode, batchCode, fileCode}
@@ -17,7 +17,7 @@ use Rattle.writer.specs.Writing.{writtenOf}
 use Rattle.writer.specs.Cases.{Cases}
 
 pub cases : Cases
-unfolding pick same digitsOnto decimal valueAfter daysIn isDate isDesiredDate isTestCode isIdentification isOfDay weighted isEleven isOrderingAccount isAccount isOwnPayer isOwnBeneficiary typeOf fieldAnswer firstOr digitsOf codeOf debitCode batchCode fileCode firstFault faultOf padded isKept within mayOpen mayEnd mayPay mayName mayText mayRefer textsBy allowed judgedAs judgedKind judgedLine isWhole judgedFirst stepAt numberIn textIn blankIn encodedLine digitsFor lineFor writtenOf
+unfolding pick same digitsOnto decimal valueAfter daysIn isDate isDesiredDate isTestCode isIdentification isOfDay weighted isEleven isOrderingAccount isAccount isOwnIf typeOf fieldAnswer firstOr digitsOf codeOf debitCode batchCode fileCode firstFault faultOf padded isKept within mayOpen mayEnd mayPay mayName mayText mayRefer textsBy allowed judgedAs judgedKind judgedLine isWhole judgedFirst stepAt numberIn textIn blankIn encodedLine digitsFor lineFor writtenOf
 cases =
     record {
       header = refl;

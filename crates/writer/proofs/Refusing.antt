@@ -16,7 +16,7 @@ use Rattle.format.specs.Tests.{Test, Tests}
 use Rattle.format.specs.declared.Code.{Code}
 use Rattle.format.specs.declared.Code.the-variants.{Of, Unknown}
 use Rattle.format.proofs.Link.{line-widths}
-use Rattle.field.specs.Rows.{Row, cut, firstAnswer, fieldAnswer, rowsAt, checkRows, firstOr}
+use Rattle.field.specs.Rows.{Row, partAt, firstAnswer, fieldAnswer, rowsAt, checkRows, firstOr}
 use Rattle.record.specs.Kinds.{codeOf}
 use Rattle.record.specs.Faults.{faultAt, noFault, firstFault, fieldsOf, testsFor, maximaFor, faultOf}
 use Rattle.record.specs.declared.Fault.{Fault}
@@ -79,7 +79,7 @@ rows-unfit c (f ∷ fs) t g xs k h p e z =
     let w = field-long f (g .0) (h .0) in
     let d = drop (c - 1) xs in
     let q : (c - 1) + width f ≡ c + width f - 1 = omega arith in
-    let a : cut c (width f) xs ≡ encodeField f (g .0) = sym (take-take (width f) (width f + widths fs) d (omega arith)) ∙ ap (take (width f)) e ∙ take-at (encodeField f (g .0)) (encodeFields fs (g .1)) (width f) w in
+    let a : partAt c (width f) xs ≡ encodeField f (g .0) = sym (take-take (width f) (width f + widths fs) d (omega arith)) ∙ ap (take (width f)) e ∙ take-at (encodeField f (g .0)) (encodeFields fs (g .1)) (width f) w in
     let b : take (widths fs) (drop (c + width f - 1) xs) ≡ encodeFields fs (g .1)
     = sym (drop-at (encodeField f (g .0)) (take (widths fs) (drop (c + width f - 1) xs)) (width f) w)
     ∙ ap (drop (width f)) (sym (take-add (width f) (widths fs) d ∙ ap₂ _++_ a (ap (take (widths fs)) (drop-drop (width f) (c - 1) xs ∙ ap (λ i. drop i xs) q))) ∙ e)
@@ -87,7 +87,7 @@ rows-unfit c (f ∷ fs) t g xs k h p e z =
     by (isUnfit f (g .0)) refl (eqb no 0) refl a (rows-unfit (c + width f) fs (t .1) (g .1) xs k (h .1) (omega arith) b) z
   where
     no : ℕ
-    no = fieldAnswer f (t .0) (cut c (width f) xs)
+    no = fieldAnswer f (t .0) (partAt c (width f) xs)
 
     later : ℕ
     later = unfitFrom (c + width f) fs (g .1)
@@ -98,10 +98,10 @@ rows-unfit c (f ∷ fs) t g xs k h p e z =
     some-no : eqb no 0 ≡ false → no ≡ 0 → ⊥
     some-no y n = subst T (sym (eq-eqb no 0 n) ∙ y) tt
 
-    four : isUnfit f (g .0) ≡ true → cut c (width f) xs ≡ encodeField f (g .0) → no ≡ 4
+    four : isUnfit f (g .0) ≡ true → partAt c (width f) xs ≡ encodeField f (g .0) → no ≡ 4
     four u a = ap (fieldAnswer f (t .0)) a ∙ unfit-no f (t .0) (g .0) (h .0) u
 
-    by : (u : Bool) → isUnfit f (g .0) ≡ u → (v : Bool) → eqb no 0 ≡ v → cut c (width f) xs ≡ encodeField f (g .0) → ((later ≡ 0 → ⊥) → Stopped later (rest .number) (rest .column)) → (pick u c later ≡ 0 → ⊥)
+    by : (u : Bool) → isUnfit f (g .0) ≡ u → (v : Bool) → eqb no 0 ≡ v → partAt c (width f) xs ≡ encodeField f (g .0) → ((later ≡ 0 → ⊥) → Stopped later (rest .number) (rest .column)) → (pick u c later ≡ 0 → ⊥)
         → Stopped (pick u c later) (pick v rest (faultAt c no) .number) (pick v rest (faultAt c no) .column)
     by true x true y a r z = absurd (subst T (sym y ∙ ne-eqb no 0 (λ n. let k = four x a in omega arith)) tt)
     by true x false y a r z = record { some = some-no y; no-later = omega arith; there = λ i. four x a }
