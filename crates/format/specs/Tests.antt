@@ -42,7 +42,7 @@ abbrev pub identificationTests : ℕ → List ℕ → List Test
 identificationTests created t = test (isIdentification t) wrongValue ∷ test (isOfDay created t) differs ∷ []
 
 abbrev pub duplicateTests : ℕ → List Test
-duplicateTests v = rangeTests 1 2 v
+duplicateTests = rangeTests 1 2
 
 -- 'the same throughout the file': the group so far, if any
 abbrev pub sameGroupTests : Option Group → List ℕ → List Test
@@ -74,7 +74,7 @@ abbrev pub typeTests : Group → TypeRead → List Test
 typeTests g t = test (isType t) wrongValue ∷ test (isTypeIn g t) differs ∷ []
 
 abbrev pub amountTests : ℕ → List Test
-amountTests v = rangeTests 1 maxAmount v
+amountTests = rangeTests 1 maxAmount
 
 -- by whether it has to be the own account
 abbrev pub partyTests : Bool → ℕ → ℕ → List Test

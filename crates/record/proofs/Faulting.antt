@@ -16,8 +16,8 @@ use Rattle.machine.proofs.Base.{and-first, and-second, true≢false}
 use Rattle.format.specs.Fields.{Field, numeric, filled, filler, width, wellFormed}
 use Rattle.format.specs.Answers.{wrongValue, wrongAccount, differs, aboveMaximum}
 use Rattle.format.specs.Records.{layout, Fields, group, sequence, unidentified, type, amount}
-use Rattle.format.specs.Rules.{maxAmount, maxTotal, maxItems, maxAccount, maxSequence, EUR, isGroup, isOrderingAccount, isIdentification, isOfDay, isNameCodeIn, isAccount, isOwnIf, sameGroup, typeOf, isType}
-use Rattle.format.specs.Tests.{Test, test, Tests, isNext, groupTests, typeTests, transactionTests, fileHeaderTests, orderingPartyTests, batchTrailerTests}
+use Rattle.format.specs.Rules.{maxAmount, maxTotal, maxItems, maxAccount, maxSequence, EUR, isGroup, isOrderingAccount, isIdentification, isOfDay, isNameCodeIn, sameGroup, typeOf, isType}
+use Rattle.format.specs.Tests.{Test, test, Tests, untested, rangeTests, dateTests, identificationTests, groupTests, orderingTests, sequenceTests, textTests, nameCodeTests, typeTests, amountTests, partyTests, transactionTests, fileHeaderTests, orderingPartyTests, batchTrailerTests}
 use Rattle.format.specs.declared.Kind.{Kind}
 use Rattle.format.specs.declared.Kind.the-variants.{FileHeader, BatchHeaderB, BatchHeaderC, FixedDescription, OrderingParty, Transaction, NamePayer, CityPayer, PaymentReference, Description, NameBeneficiary, CityBeneficiary, BatchTrailer, FileTrailer}
 use Rattle.format.specs.declared.Group.{Group}
@@ -26,14 +26,14 @@ use Rattle.format.specs.declared.TypeRead.{TypeRead}
 use Rattle.format.specs.declared.TypeRead.the-variants.{Of, NoType}
 use Rattle.field.specs.declared.numbers.Digits.{Digits}
 use Rattle.field.specs.declared.numbers.Numeric.{Numeric}
-use Rattle.field.specs.Rows.{Row, row, partAt, firstAnswer, fieldAnswer, rowsAt, checkRows, firstOr}
-use Rattle.field.specs.Leaf.{digitsOf, numericAnswer, numericOf, rangeTests, dateTests, isOwnIf, partyTests}
+use Rattle.field.specs.Rows.{Row, row, partAt, answerAt, firstAnswer, fieldAnswer, rowsAt, checkRows, firstOr}
+use Rattle.field.specs.Leaf.{digitsOf, numericAnswer, numericOf}
 use Rattle.field.proofs.Rows.{row-next, row-none, rows-passed, no-row, of-value, ranged-row, party-row}
 use Rattle.record.specs.declared.Fault.{Fault}
 use Rattle.record.specs.declared.Batch.{Batch}
 use Rattle.record.specs.declared.TransactionFields.{TransactionFields}
 use Rattle.record.specs.declared.TransactionRead.{TransactionRead}
-use Rattle.record.specs.Faults.{faultAt, noFault, firstFault, fieldsOf, fieldsFault, groupSaid, testsFor, maximaFor, faultOf, headerFault, textFault, maximaFault}
+use Rattle.record.specs.Faults.{faultAt, noFault, firstFault, fieldsOf, fieldsFault, groupSaid, testsFor, maximaFor, faultOf, batchIdentificationAnswer, headerFault, textFault, maximaFault}
 use Rattle.record.specs.Read.{transactionFor, refusedTransaction, takenTransaction, transactionOf}
 
 -- the last row of a chain
@@ -92,9 +92,8 @@ module _ {p : List ℕ} {d : Bool} (l : List ℕ) (i : p ≡ take 4 (drop 24 l))
 
 -- the row, with the creation date as it stands
 pub identification-row : {r : Numeric} {n : ℕ} (l t : List ℕ) → r ≡ numericOf dateTests l → r .number ≡ 0
-    → n ≡ fieldAnswer (filled 4) (test (isIdentification t) wrongValue ∷ test (isOfDay (r .value) t) differs ∷ []) t
-    → n ≡ fieldAnswer (filled 4) (test (isIdentification t) wrongValue ∷ test (isOfDay (valueOf l) t) differs ∷ []) t
-identification-row l t e z h = h ∙ ap (λ v. fieldAnswer (filled 4) (test (isIdentification t) wrongValue ∷ test (isOfDay v t) differs ∷ []) t) (of-value dateTests l e z)
+    → n ≡ fieldAnswer (filled 4) (identificationTests (r .value) t) t → n ≡ fieldAnswer (filled 4) (identificationTests (valueOf l) t) t
+identification-row l t e z h = h ∙ ap (λ v. fieldAnswer (filled 4) (identificationTests v t) t) (of-value dateTests l e z)
 
 -- ## Numbers with a test more
 
@@ -108,11 +107,8 @@ at-least {f} low high l e z = rw (of-value (rangeTests low high) l e z) (by (leb
     by true false c h d k = absurd (omega arith)
     by false b c h d k = absurd (omega arith)
 
-abbrev sequenceTests : ℕ → ℕ → List Test
-sequenceTests before v = test (inRange 1 maxSequence v) wrongValue ∷ test (isNext before v) differs ∷ []
-
 pub sequence-row : {r : ℕ} (before : ℕ) (m : List ℕ) → r ≡ numericAnswer (sequenceTests before) (take 4 m)
-    → r ≡ fieldAnswer (numeric 4) (test (inRange 1 maxSequence (valueOf (take 4 m))) wrongValue ∷ test (isNext before (valueOf (take 4 m))) differs ∷ []) (take 4 m)
+    → r ≡ fieldAnswer (numeric 4) (sequenceTests before (valueOf (take 4 m))) (take 4 m)
 sequence-row before m e = no-row (sequenceTests before) 4 m e refl
 
 pub is-next : (before n : ℕ) → 1 ≤ n → n - 1 ≡ before → eqb n (suc before) ≡ true
@@ -121,11 +117,8 @@ is-next before n h e = eq-eqb n (suc before) (omega arith)
 pub is-not-next : (before n : ℕ) → 1 ≤ n → (n - 1 ≡ before → ⊥) → eqb n (suc before) ≡ false
 is-not-next before n h e = ne-eqb n (suc before) (λ k. e (omega arith))
 
-abbrev nameCodeTests : Group → ℕ → List Test
-nameCodeTests g v = test (inRange 1 2 v) wrongValue ∷ test (isNameCodeIn g v) differs ∷ []
-
 pub name-code-row : {r : ℕ} (g : Group) (m : List ℕ) → r ≡ numericAnswer (nameCodeTests g) (take 1 m)
-    → r ≡ fieldAnswer (numeric 1) (test (inRange 1 2 (valueOf (take 1 m))) wrongValue ∷ test (isNameCodeIn g (valueOf (take 1 m))) differs ∷ []) (take 1 m)
+    → r ≡ fieldAnswer (numeric 1) (nameCodeTests g (valueOf (take 1 m))) (take 1 m)
 name-code-row g m e = no-row (nameCodeTests g) 1 m e refl
 
 pub name-payments : {g : Group} (n : ℕ) → g ≡ Payments → isNameCodeIn g n ≡ true
@@ -166,12 +159,12 @@ below h = omega arith
 -- the rows of both variants
 abbrev headerRows : Bool → Option Group → ℕ → List ℕ → List Row
 headerRows identified g before l =
-    row 6 (fieldAnswer (filled 2) (test (isGroup (take 2 (drop 5 l))) wrongValue ∷ groupTests g (take 2 (drop 5 l))) (take 2 (drop 5 l)))
-    ∷ row 8 (fieldAnswer (numeric 10) (test (inRange 1 maxAccount (valueOf (take 10 (drop 7 l)))) wrongValue ∷ test (isOrderingAccount (valueOf (take 10 (drop 7 l)))) wrongAccount ∷ []) (take 10 (drop 7 l)))
-    ∷ row 18 (fieldAnswer (numeric 4) (test (inRange 1 maxSequence (valueOf (take 4 (drop 17 l)))) wrongValue ∷ test (isNext before (valueOf (take 4 (drop 17 l)))) differs ∷ []) (take 4 (drop 17 l)))
-    ∷ row 22 (fieldAnswer (filled 3) (test (same (take 3 (drop 21 l)) EUR) wrongValue ∷ []) (take 3 (drop 21 l)))
-    ∷ row 25 (pick identified (fieldAnswer (filled 16) [] (take 16 (drop 24 l))) (fieldAnswer (filler 16) [] (take 16 (drop 24 l))))
-    ∷ row 41 (fieldAnswer (filler 10) [] (take 10 (drop 40 l)))
+    row 6 (answerAt 6 (filled 2) (groupTests g) l)
+    ∷ row 8 (answerAt 8 (numeric 10) orderingTests l)
+    ∷ row 18 (answerAt 18 (numeric 4) (sequenceTests before) l)
+    ∷ row 22 (answerAt 22 (filled 3) (textTests EUR) l)
+    ∷ row 25 (batchIdentificationAnswer identified l)
+    ∷ row 41 (fieldAnswer (filler 10) [] (partAt 41 10 l))
     ∷ []
 
 header-rows : (identified : Bool) (g : Option Group) (before : ℕ) (l : List ℕ) → firstOr faultAt (headerRows identified g before l) noFault ≡ headerFault identified g before l
@@ -187,30 +180,6 @@ header-via identified g before l e = e ∙ header-rows identified g before l
 pub type-row : {t : TypeRead} {n : ℕ} (g : Group) (l : List ℕ) → t ≡ typeOf l → n ≡ fieldAnswer (filled 4) (typeTests g t) l → n ≡ fieldAnswer (filled 4) (typeTests g (typeOf l)) l
 type-row g l e h = h ∙ ap (λ t. fieldAnswer (filled 4) (typeTests g t) l) e
 
-own-payer : (g : Group) (own v : ℕ) → isOwnIf (sameGroup Payments g) own v ≡ isOwnPayer g own v
-unfolding isOwnIf isOwnPayer
-own-payer Payments own v = refl
-own-payer Debits own v = refl
-
-own-beneficiary : (g : Group) (own v : ℕ) → isOwnIf (sameGroup Debits g) own v ≡ isOwnBeneficiary g own v
-unfolding isOwnIf isOwnBeneficiary
-own-beneficiary Payments own v = refl
-own-beneficiary Debits own v = refl
-
-abbrev partyRow : List ℕ → Bool → ℕ
-partyRow l b = fieldAnswer (numeric 10) (test (inRange 1 maxAccount (valueOf l)) wrongValue ∷ test (isAccount (valueOf l)) wrongAccount ∷ test b differs ∷ []) l
-
-module _ {r : Numeric} (g : Group) (own : ℕ) (m : List ℕ) where
-  pub payer-row : r ≡ numericOf (partyTests (sameGroup Payments g) own) (take 10 m)
-      → r .number ≡ fieldAnswer (numeric 10) (test (inRange 1 maxAccount (valueOf (take 10 m))) wrongValue ∷ test (isAccount (valueOf (take 10 m))) wrongAccount ∷ test (isOwnPayer g own (valueOf (take 10 m))) differs ∷ []) (take 10 m)
-  payer-row e = party-row 10 m (sameGroup Payments g) own e refl ∙ ap (partyRow (take 10 m)) (own-payer g own (valueOf (take 10 m)))
-
-  pub beneficiary-row : r ≡ numericOf (partyTests (sameGroup Debits g) own) (take 10 m)
-      → r .number ≡ fieldAnswer (numeric 10) (test (inRange 1 maxAccount (valueOf (take 10 m))) wrongValue ∷ test (isAccount (valueOf (take 10 m))) wrongAccount ∷ test (isOwnBeneficiary g own (valueOf (take 10 m))) differs ∷ []) (take 10 m)
-  beneficiary-row e = party-row 10 m (sameGroup Debits g) own e refl ∙ ap (partyRow (take 10 m)) (own-beneficiary g own (valueOf (take 10 m)))
-
-pub ruleset parts = (type-row, payer-row, beneficiary-row)
-
 pub party-via : {r : Numeric} {m : Bool} (n : Bool) (own : ℕ) (l : List ℕ) → m ≡ n → r ≡ numericOf (partyTests m own) l → r ≡ numericOf (partyTests n own) l
 party-via n own l e h = h ∙ ap (λ m. numericOf (partyTests m own) l) e
 
@@ -218,20 +187,20 @@ party-via n own l e h = h ∙ ap (λ m. numericOf (partyTests m own) l) e
 pub all-taken : {x : TransactionRead} {t : TypeRead} {kind rest : ℕ} {amount payer beneficiary : Numeric} (g : Group) (own : ℕ) (l : List ℕ)
     → x ≡ takenTransaction t (amount .value) (payer .value) (beneficiary .value)
     → t ≡ typeOf (take 4 (drop 5 l)) → kind ≡ fieldAnswer (filled 4) (typeTests g t) (take 4 (drop 5 l)) → kind ≡ 0
-    → amount ≡ numericOf (rangeTests 1 maxAmount) (take 12 (drop 9 l)) → amount .number ≡ 0
+    → amount ≡ numericOf amountTests (take 12 (drop 9 l)) → amount .number ≡ 0
     → payer ≡ numericOf (partyTests (sameGroup Payments g) own) (take 10 (drop 21 l)) → payer .number ≡ 0
     → beneficiary ≡ numericOf (partyTests (sameGroup Debits g) own) (take 10 (drop 31 l)) → beneficiary .number ≡ 0
     → rest ≡ fieldAnswer (filler 9) [] (take 9 (drop 41 l)) → rest ≡ 0
     → x ≡ transactionOf g own l
 unfolding transactionOf
 all-taken g own l h t k k0 a a0 p p0 b b0 f f0 =
-    let va = of-value (rangeTests 1 maxAmount) (take 12 (drop 9 l)) a a0 in
+    let va = of-value amountTests (take 12 (drop 9 l)) a a0 in
     let vp = of-value (partyTests (sameGroup Payments g) own) (take 10 (drop 21 l)) p p0 in
     let vb = of-value (partyTests (sameGroup Debits g) own) (take 10 (drop 31 l)) b b0 in
     row-next _ _ _ _ _ (type-row g (take 4 (drop 5 l)) t k) k0
     (row-next _ _ _ _ _ (ranged-row 12 (drop 9 l) 1 maxAmount a refl) a0
-    (row-next _ _ _ _ _ (payer-row g own (drop 21 l) p) p0
-    (row-next _ _ _ _ _ (beneficiary-row g own (drop 31 l) b) b0
+    (row-next _ _ _ _ _ (party-row 10 (drop 21 l) (sameGroup Payments g) own p refl) p0
+    (row-next _ _ _ _ _ (party-row 10 (drop 31 l) (sameGroup Debits g) own b refl) b0
     (row-next _ _ _ _ _ f f0
     (row-none _ _ (h ∙ rw (t, va, vp, vb)))))))
 
@@ -480,7 +449,7 @@ module _ {k : Kind} {x : Fault} (said : Bool) (g : Group) (b : Batch) (xs : List
   at : (j : Kind) → k ≡ j → x ≡ faultOf said g b j xs → x ≡ faultOf said g b k xs
   at j e h = h ∙ ap (λ i. faultOf said g b i xs) (sym e)
 
-  pub at-file-header : k ≡ FileHeader → x ≡ fieldsFault FileHeader (fileHeaderTests (fieldsOf FileHeader xs)) xs → x ≡ faultOf said g b k xs
+  pub at-file-header : k ≡ FileHeader → x ≡ fieldsFault FileHeader fileHeaderTests xs → x ≡ faultOf said g b k xs
   unfolding faultOf fieldsFault
   at-file-header e h = at FileHeader e h
 
@@ -496,7 +465,7 @@ module _ {k : Kind} {x : Fault} (said : Bool) (g : Group) (b : Batch) (xs : List
   unfolding faultOf textFault
   at-fixed e h = at FixedDescription e h
 
-  pub at-ordering : k ≡ OrderingParty → x ≡ fieldsFault OrderingParty (orderingPartyTests g (fieldsOf OrderingParty xs)) xs → x ≡ faultOf said g b k xs
+  pub at-ordering : k ≡ OrderingParty → x ≡ fieldsFault OrderingParty (orderingPartyTests g) xs → x ≡ faultOf said g b k xs
   unfolding faultOf fieldsFault
   at-ordering e h = at OrderingParty e h
 
@@ -508,7 +477,7 @@ module _ {k : Kind} {x : Fault} (said : Bool) (g : Group) (b : Batch) (xs : List
   unfolding faultOf textFault
   at-name-payer e h = at NamePayer e h
 
-  pub at-city-payer : k ≡ CityPayer → x ≡ fieldsFault CityPayer ([], tt) xs → x ≡ faultOf said g b k xs
+  pub at-city-payer : k ≡ CityPayer → x ≡ fieldsFault CityPayer (λ x. untested (layout CityPayer)) xs → x ≡ faultOf said g b k xs
   unfolding faultOf fieldsFault
   at-city-payer e h = at CityPayer e h
 
@@ -524,14 +493,14 @@ module _ {k : Kind} {x : Fault} (said : Bool) (g : Group) (b : Batch) (xs : List
   unfolding faultOf textFault
   at-name-beneficiary e h = at NameBeneficiary e h
 
-  pub at-city-beneficiary : k ≡ CityBeneficiary → x ≡ fieldsFault CityPayer ([], tt) xs → x ≡ faultOf said g b k xs
+  pub at-city-beneficiary : k ≡ CityBeneficiary → x ≡ fieldsFault CityPayer (λ x. untested (layout CityPayer)) xs → x ≡ faultOf said g b k xs
   unfolding faultOf fieldsFault
   at-city-beneficiary e h = at CityBeneficiary e h
 
-  pub at-batch-trailer : k ≡ BatchTrailer → x ≡ fieldsFault BatchTrailer (batchTrailerTests (b .total) (b .accounts) (b .items) (fieldsOf BatchTrailer xs)) xs → x ≡ faultOf said g b k xs
+  pub at-batch-trailer : k ≡ BatchTrailer → x ≡ fieldsFault BatchTrailer (batchTrailerTests (b .total) (b .accounts) (b .items)) xs → x ≡ faultOf said g b k xs
   unfolding faultOf fieldsFault
   at-batch-trailer e h = at BatchTrailer e h
 
-  pub at-file-trailer : k ≡ FileTrailer → x ≡ fieldsFault FileTrailer ([], tt) xs → x ≡ faultOf said g b k xs
+  pub at-file-trailer : k ≡ FileTrailer → x ≡ fieldsFault FileTrailer (λ x. untested (layout FileTrailer)) xs → x ≡ faultOf said g b k xs
   unfolding faultOf fieldsFault
   at-file-trailer e h = at FileTrailer e h

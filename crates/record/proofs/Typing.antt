@@ -1,12 +1,11 @@
 -- Groups and transaction types. Assumes nothing.
 use Prim.Native.Nat.{ℕ}
 use mathlib.Core.Path.{_≡_, sym, ap, _∙_}
-use mathlib.Core.List.{List, _∷_}
+use mathlib.Core.List.{List}
 use mathlib.Core.Bool.{Bool, true, false}
 use Rattle.machine.specs.Lists.{pick, same}
 use Rattle.format.specs.Rules.{groupText, isGroup, sameGroup, typeGroup, isUnchecked, needsName}
-use Rattle.format.specs.Answers.{wrongValue}
-use Rattle.format.specs.Tests.{test, groupTests, typeTests}
+use Rattle.format.specs.Tests.{groupTests, typeTests}
 use Rattle.format.specs.declared.Group.{Group}
 use Rattle.format.specs.declared.TransactionType.{TransactionType}
 use Rattle.format.specs.declared.TypeRead.{TypeRead}
@@ -25,7 +24,7 @@ same-case e f h = rw (e, f) h
 
 -- a group, and the one so far where that is said
 abbrev groupAnswer : Bool → Group → List ℕ → ℕ
-groupAnswer said g l = firstAnswer (test (isGroup l) wrongValue ∷ groupTests (groupSaid said g) l)
+groupAnswer said g l = firstAnswer (groupTests (groupSaid said g) l)
 
 module _ {p : List ℕ} {a : Bool} (l : List ℕ) (d : p ≡ l) (e : a ≡ isGroup p) where
   is-group : {v : Bool} → a ≡ v → isGroup l ≡ v

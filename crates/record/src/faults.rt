@@ -2,19 +2,19 @@
 ghost use mathlib.Core.Path.{_≡_};
 ghost use mathlib.Core.Bool.{false};
 ghost use mathlib.Core.List.{[], _∷_};
-ghost use lib.ListN.{take, drop};
-ghost use Rattle.machine.specs.Lists.{pick, inRange};
-ghost use Rattle.machine.specs.Digits.{valueOf};
-ghost use Rattle.format.specs.Fields.{numeric, filled, filler};
-ghost use Rattle.format.specs.Answers.{wrongValue, differs};
-ghost use Rattle.format.specs.Rules.{maxAmount, maxSequence, isIdentification, isOfDay, isNameCodeIn, isTestCode, sameGroup};
-ghost use Rattle.format.specs.Tests.{test, isNext, fileHeaderTests, orderingPartyTests, batchTrailerTests};
-ghost use Rattle.format.specs.declared.Kind.the-variants.{FileHeader, OrderingParty, CityPayer, BatchTrailer, FileTrailer};
+ghost use Rattle.format.specs.Fields.{numeric, filled};
+ghost use Rattle.format.specs.Records.{layout};
+ghost use Rattle.format.specs.Rules.{sameGroup};
+ghost use Rattle.format.specs.Tests.{untested, fileHeaderTests, orderingPartyTests, batchTrailerTests};
+ghost use Rattle.format.specs.Tests.{identificationTests, sequenceTests, nameCodeTests, testCodeTests, amountTests, partyTests};
+ghost use Rattle.format.specs.declared.Kind.the-variants.{FileHeader, OrderingParty, BatchTrailer, FileTrailer};
+ghost use Rattle.format.specs.declared.Kind.the-variants.{CityPayer};
 ghost use Rattle.format.specs.declared.Kind.the-variants as kinds;
 ghost use Rattle.format.specs.declared.Group.the-variants.{Payments, Debits};
-ghost use Rattle.field.specs.Rows.{row, fieldAnswer};
-ghost use Rattle.field.specs.Leaf.{numericOf, rangeTests, partyTests};
-ghost use Rattle.record.specs.Faults.{faultAt, firstFault, fieldsOf, fieldsFault, groupSaid, headerFault, textFault, maximaFault, faultOf};
+ghost use Rattle.field.specs.Rows.{row, partAt, answerAt};
+ghost use Rattle.field.specs.Leaf.{numericOf};
+ghost use Rattle.record.specs.Faults.{faultAt, firstFault, fieldsFault, textFault, maximaFault, faultOf};
+ghost use Rattle.record.specs.Faults.{groupSaid, batchIdentificationAnswer, headerFault};
 ghost use Rattle.record.specs.Read.{refusedTransaction, takenTransaction, transactionOf};
 use crate::Batch;
 use crate::Fault;
@@ -86,7 +86,7 @@ fn identification_answer(line: &[u8], created: u64) -> u8
 }
 
 fn file_header(line: &[u8]) -> Fault
-    ensures { λ r. ⌜ r ≡ fieldsFault FileHeader (fileHeaderTests (fieldsOf FileHeader (now (line .entry)))) (now (line .entry)) ⌝ }
+    ensures { λ r. ⌜ r ≡ fieldsFault FileHeader fileHeaderTests (now (line .entry)) ⌝ }
 {
     let created = date(line, 5);
     if created.number != 0 {
@@ -198,7 +198,7 @@ fn test_code_answer(line: &[u8]) -> u8
 }
 
 fn ordering_party(line: &[u8], group: Group) -> Fault
-    ensures { λ r. ⌜ r ≡ fieldsFault OrderingParty (orderingPartyTests group (fieldsOf OrderingParty (now (line .entry)))) (now (line .entry)) ⌝ }
+    ensures { λ r. ⌜ r ≡ fieldsFault OrderingParty (orderingPartyTests group) (now (line .entry)) ⌝ }
 {
     let code = name_code_answer(line, group);
     if code != 0 {
@@ -354,13 +354,14 @@ fn text(line: &[u8], width: usize, at: usize, rest: usize, column: u8) -> Fault
 }
 
 fn city(line: &[u8]) -> Fault
-    ensures { λ r. ⌜ r ≡ fieldsFault CityPayer ([], tt) (now (line .entry)) ⌝ }
+    ensures { λ r. ⌜ r ≡ fieldsFault CityPayer (λ x. untested (layout CityPayer)) (now (line .entry)) ⌝ }
 {
     last(free_answer(line, 5, 45), 6)
 }
 
 fn batch_trailer(line: &[u8], batch: Batch) -> Fault
-    ensures { λ r. ⌜ r ≡ fieldsFault BatchTrailer (batchTrailerTests (batch .total) (batch .accounts) (batch .items) (fieldsOf BatchTrailer (now (line .entry)))) (now (line .entry)) ⌝ }
+    ensures { λ r. ⌜ r ≡ fieldsFault BatchTrailer
+        (batchTrailerTests (batch .total) (batch .accounts) (batch .items)) (now (line .entry)) ⌝ }
 {
     let total = total_answer(line, 5, 18, 1, Batch::MAX_TOTAL, batch.total);
     if total != 0 {
@@ -378,7 +379,7 @@ fn batch_trailer(line: &[u8], batch: Batch) -> Fault
 }
 
 fn file_trailer(line: &[u8]) -> Fault
-    ensures { λ r. ⌜ r ≡ fieldsFault FileTrailer ([], tt) (now (line .entry)) ⌝ }
+    ensures { λ r. ⌜ r ≡ fieldsFault FileTrailer (λ x. untested (layout FileTrailer)) (now (line .entry)) ⌝ }
 {
     last(filler_answer(line, 5, 45), 6)
 }

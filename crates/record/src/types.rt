@@ -1,12 +1,10 @@
 // Groups and transaction types.
 ghost use mathlib.Core.Path.{_≡_};
-ghost use mathlib.Core.List.{_∷_};
-ghost use lib.ListN.{take, drop};
 ghost use Rattle.format.specs.Fields.{filled};
-ghost use Rattle.format.specs.Answers.{wrongValue};
-ghost use Rattle.format.specs.Rules.{groupText, isGroup, groupOf, sameGroup, typeText, typeOf, typeGroup, isUnchecked, needsName};
-ghost use Rattle.format.specs.Tests.{test, groupTests, typeTests};
-ghost use Rattle.field.specs.Rows.{firstAnswer, fieldAnswer};
+ghost use Rattle.format.specs.Rules.{groupText, isGroup, groupOf, sameGroup};
+ghost use Rattle.format.specs.Rules.{typeText, typeOf, typeGroup, isUnchecked, needsName};
+ghost use Rattle.format.specs.Tests.{groupTests, typeTests};
+ghost use Rattle.field.specs.Rows.{partAt, answerAt, firstAnswer, fieldAnswer};
 ghost use Rattle.record.specs.Faults.{groupSaid};
 use field::bytes::is_same;
 use field::bytes::part;
