@@ -6,7 +6,7 @@ use Prim.Native.Nat.{ℕ, zero, suc, _+_}
 use lib.ListN.{take, drop}
 use Rattle.machine.specs.Lists.{same}
 use Rattle.machine.proofs.Base.{Outcome, refuse}
-use Rattle.format.specs.Fields.{Field, Fits, readFields}
+use Rattle.format.specs.Fields.{Fits, readFields}
 use Rattle.format.specs.Records.{layout, code, Fields, group, orderingAccount, sequence, unidentified, type, amount, payer, beneficiary}
 use Rattle.format.specs.Rules.{maxFixed, groupOf, typeOf, needsName}
 use Rattle.format.specs.Language.{Rec, tenDigits, Before, noneBefore, afterThat}

@@ -14,10 +14,10 @@ use Rattle.machine.specs.Lists.{pick, all, same, isDigit, inRange}
 use Rattle.machine.specs.Digits.{valueOf}
 use Rattle.machine.proofs.Base.{and-first, and-second, true≢false}
 use Rattle.format.specs.Fields.{Field, numeric, filled, filler, width, wellFormed}
-use Rattle.format.specs.Answers.{wrongValue, wrongAccount, differs, aboveMaximum}
+use Rattle.format.specs.Answers.{aboveMaximum}
 use Rattle.format.specs.Records.{layout, Fields, group, sequence, unidentified, type, amount}
-use Rattle.format.specs.Rules.{maxAmount, maxTotal, maxItems, maxAccount, maxSequence, EUR, isGroup, isOrderingAccount, isIdentification, isOfDay, isNameCodeIn, sameGroup, typeOf, isType}
-use Rattle.format.specs.Tests.{Test, test, Tests, untested, rangeTests, dateTests, identificationTests, groupTests, orderingTests, sequenceTests, textTests, nameCodeTests, typeTests, amountTests, partyTests, transactionTests, fileHeaderTests, orderingPartyTests, batchTrailerTests}
+use Rattle.format.specs.Rules.{maxAmount, maxTotal, maxItems, maxAccount, maxSequence, EUR, isIdentification, isOfDay, isNameCodeIn, sameGroup, typeOf, isType}
+use Rattle.format.specs.Tests.{Test, test, Tests, untested, rangeTests, dateTests, identificationTests, groupTests, orderingTests, sequenceTests, textTests, typeTests, amountTests, partyTests, transactionTests, fileHeaderTests, orderingPartyTests, batchTrailerTests}
 use Rattle.format.specs.declared.Kind.{Kind}
 use Rattle.format.specs.declared.Kind.the-variants.{FileHeader, BatchHeaderB, BatchHeaderC, FixedDescription, OrderingParty, Transaction, NamePayer, CityPayer, PaymentReference, Description, NameBeneficiary, CityBeneficiary, BatchTrailer, FileTrailer}
 use Rattle.format.specs.declared.Group.{Group}
@@ -28,7 +28,7 @@ use Rattle.field.specs.declared.numbers.Digits.{Digits}
 use Rattle.field.specs.declared.numbers.Numeric.{Numeric}
 use Rattle.field.specs.Rows.{Row, row, partAt, answerAt, firstAnswer, fieldAnswer, rowsAt, checkRows, firstOr}
 use Rattle.field.specs.Leaf.{digitsOf, numericAnswer, numericOf}
-use Rattle.field.proofs.Rows.{row-next, row-none, rows-passed, no-row, of-value, ranged-row, party-row}
+use Rattle.field.proofs.Rows.{row-next, row-none, rows-passed, of-row, of-value}
 use Rattle.record.specs.declared.Fault.{Fault}
 use Rattle.record.specs.declared.Batch.{Batch}
 use Rattle.record.specs.declared.TransactionFields.{TransactionFields}
@@ -107,19 +107,11 @@ at-least {f} low high l e z = rw (of-value (rangeTests low high) l e z) (by (leb
     by true false c h d k = absurd (omega arith)
     by false b c h d k = absurd (omega arith)
 
-pub sequence-row : {r : ℕ} (before : ℕ) (m : List ℕ) → r ≡ numericAnswer (sequenceTests before) (take 4 m)
-    → r ≡ fieldAnswer (numeric 4) (sequenceTests before (valueOf (take 4 m))) (take 4 m)
-sequence-row before m e = no-row (sequenceTests before) 4 m e refl
-
 pub is-next : (before n : ℕ) → 1 ≤ n → n - 1 ≡ before → eqb n (suc before) ≡ true
 is-next before n h e = eq-eqb n (suc before) (omega arith)
 
 pub is-not-next : (before n : ℕ) → 1 ≤ n → (n - 1 ≡ before → ⊥) → eqb n (suc before) ≡ false
 is-not-next before n h e = ne-eqb n (suc before) (λ k. e (omega arith))
-
-pub name-code-row : {r : ℕ} (g : Group) (m : List ℕ) → r ≡ numericAnswer (nameCodeTests g) (take 1 m)
-    → r ≡ fieldAnswer (numeric 1) (nameCodeTests g (valueOf (take 1 m))) (take 1 m)
-name-code-row g m e = no-row (nameCodeTests g) 1 m e refl
 
 pub name-payments : {g : Group} (n : ℕ) → g ≡ Payments → isNameCodeIn g n ≡ true
 unfolding isNameCodeIn
@@ -198,9 +190,9 @@ all-taken g own l h t k k0 a a0 p p0 b b0 f f0 =
     let vp = of-value (partyTests (sameGroup Payments g) own) (take 10 (drop 21 l)) p p0 in
     let vb = of-value (partyTests (sameGroup Debits g) own) (take 10 (drop 31 l)) b b0 in
     row-next _ _ _ _ _ (type-row g (take 4 (drop 5 l)) t k) k0
-    (row-next _ _ _ _ _ (ranged-row 12 (drop 9 l) 1 maxAmount a refl) a0
-    (row-next _ _ _ _ _ (party-row 10 (drop 21 l) (sameGroup Payments g) own p refl) p0
-    (row-next _ _ _ _ _ (party-row 10 (drop 31 l) (sameGroup Debits g) own b refl) b0
+    (row-next _ _ _ _ _ (of-row amountTests 12 (drop 9 l) a refl refl) a0
+    (row-next _ _ _ _ _ (of-row (partyTests (sameGroup Payments g) own) 10 (drop 21 l) p refl refl) p0
+    (row-next _ _ _ _ _ (of-row (partyTests (sameGroup Debits g) own) 10 (drop 31 l) b refl refl) b0
     (row-next _ _ _ _ _ f f0
     (row-none _ _ (h ∙ rw (t, va, vp, vb)))))))
 

@@ -2,7 +2,7 @@
 ghost use mathlib.Core.Path.{_≡_};
 ghost use mathlib.Core.Bool.{false};
 ghost use mathlib.Core.List.{[], _∷_};
-ghost use Rattle.format.specs.Fields.{numeric, filled};
+ghost use Rattle.format.specs.Fields.{filled};
 ghost use Rattle.format.specs.Records.{layout};
 ghost use Rattle.format.specs.Rules.{sameGroup};
 ghost use Rattle.format.specs.Tests.{untested, fileHeaderTests, orderingPartyTests, batchTrailerTests};
@@ -12,7 +12,7 @@ ghost use Rattle.format.specs.declared.Kind.the-variants.{CityPayer};
 ghost use Rattle.format.specs.declared.Kind.the-variants as kinds;
 ghost use Rattle.format.specs.declared.Group.the-variants.{Payments, Debits};
 ghost use Rattle.field.specs.Rows.{row, partAt, answerAt};
-ghost use Rattle.field.specs.Leaf.{numericOf};
+ghost use Rattle.field.specs.Leaf.{numericAnswer, numericOf};
 ghost use Rattle.record.specs.Faults.{faultAt, firstFault, fieldsFault, textFault, maximaFault, faultOf};
 ghost use Rattle.record.specs.Faults.{groupSaid, batchIdentificationAnswer, headerFault};
 ghost use Rattle.record.specs.Read.{refusedTransaction, takenTransaction, transactionOf};
@@ -113,7 +113,7 @@ fn file_header(line: &[u8]) -> Fault
 
 // A number from 1 to 9999, and the one after that before it where there is one.
 fn sequence_answer(line: &[u8], before: u64) -> u8
-    ensures { λ r. ⌜ r ≡ answerAt 18 (numeric 4) (sequenceTests before) (now (line .entry)) ⌝ }
+    ensures { λ r. ⌜ r ≡ numericAnswer (sequenceTests before) (partAt 18 4 (now (line .entry))) ⌝ }
 {
     let n = ranged(line, 17, 4, 1, Batch::MAX_SEQUENCE);
     if n.number != 0 {
@@ -167,7 +167,7 @@ fn batch_header(line: &[u8], identified: bool, said: bool, group: Group, before:
 }
 
 fn name_code_answer(line: &[u8], group: Group) -> u8
-    ensures { λ r. ⌜ r ≡ answerAt 6 (numeric 1) (nameCodeTests group) (now (line .entry)) ⌝ }
+    ensures { λ r. ⌜ r ≡ numericAnswer (nameCodeTests group) (partAt 6 1 (now (line .entry))) ⌝ }
 {
     let n = ranged(line, 5, 1, 1, 2);
     if n.number != 0 {

@@ -13,7 +13,7 @@ use Rattle.machine.specs.Lists.{pick}
 use Rattle.machine.proofs.Base.{and-first, and-second, true≢false, of-eq}
 use Rattle.format.specs.Fields.{Field, width, widths, writeFields, Fits}
 use Rattle.format.specs.Records.{layout, code, Fields}
-use Rattle.format.specs.Tests.{Test, test, Tests, groupTests}
+use Rattle.format.specs.Tests.{Test, test, Tests, sameGroupTests}
 use Rattle.format.specs.declared.Kind.{Kind}
 use Rattle.format.specs.declared.Kind.the-variants.{FileHeader, BatchHeaderB, BatchHeaderC, FixedDescription, OrderingParty, Transaction, NamePayer, CityPayer, PaymentReference, Description, NameBeneficiary, CityBeneficiary, BatchTrailer, FileTrailer}
 use Rattle.format.specs.declared.Group.{Group}
@@ -82,7 +82,7 @@ faultless c (f ∷ fs) t xs k p h n z = by (eqb no 0) refl (faultless (c + width
         }
     by false e again y = absurd (true≢false (sym (eq-eqb no 0 y) ∙ e))
 
-group-numbered : (o : Option Group) (t : List ℕ) → Numbered (groupTests o t)
+group-numbered : (o : Option Group) (t : List ℕ) → Numbered (sameGroupTests o t)
 group-numbered none t = tt
 group-numbered (some g) t = (tt, tt)
 
