@@ -1,6 +1,7 @@
 pub mod Every
 pub mod Before
 pub mod Checks
+pub mod Printable
 pub mod Reader
 pub mod Link
 pub mod Cutting
