@@ -1,34 +1,31 @@
 -- A line's code and its kind, each by the other. Assumes nothing.
 use Prim.Native.Nat.{ℕ}
-use mathlib.Core.Path.{_≡_, refl, sym, ap, _∙_}
+use mathlib.Core.Path.{_≡_, refl, sym, ap, ap₂, _∙_}
 use mathlib.Core.List.{List}
-use mathlib.Core.Bool.{Bool, true, false}
+use mathlib.Core.Bool.{Bool, true, false, _||_}
 use native.Mathlib.Omega.{arith}
+use lib.ListN.{take, drop}
 use Rattle.machine.specs.Lists.{pick, same}
 use Rattle.machine.proofs.Base.{of-eq, same→eq}
 use Rattle.format.specs.Records.{code}
+use Rattle.format.proofs.Every.{every}
 use Rattle.format.specs.declared.Kind.{Kind}
 use Rattle.format.specs.declared.Kind.the-variants.{FileHeader, BatchHeaderB, BatchHeaderC, FixedDescription, OrderingParty, Transaction, NamePayer, CityPayer, PaymentReference, Description, NameBeneficiary, CityBeneficiary, BatchTrailer, FileTrailer}
 use Rattle.format.specs.declared.Code.{Code}
 use Rattle.format.specs.declared.Code.the-variants.{Of, Unknown}
-use Rattle.record.specs.Kinds.{codeOf, debitCode, batchCode, fileCode}
+use Rattle.record.specs.Kinds.{begins, codeOf, debitCode, batchCode, fileCode}
 
 pub code-found : (k : Kind) → codeOf (code k) ≡ Of k
 unfolding codeOf debitCode batchCode fileCode same pick
-code-found FileHeader = refl
-code-found BatchHeaderB = refl
-code-found BatchHeaderC = refl
-code-found FixedDescription = refl
-code-found OrderingParty = refl
-code-found Transaction = refl
-code-found NamePayer = refl
-code-found CityPayer = refl
-code-found PaymentReference = refl
-code-found Description = refl
-code-found NameBeneficiary = refl
-code-found CityBeneficiary = refl
-code-found BatchTrailer = refl
-code-found FileTrailer = refl
+code-found = every (λ k. codeOf (code k) ≡ Of k) refl refl refl refl refl refl refl refl refl refl refl refl refl refl
+
+-- ## A line's beginning
+
+pub begins-with : {p t : List ℕ} {b : Bool} (k : Kind) (line : List ℕ) → p ≡ take 5 (drop 0 line) → t ≡ code k → b ≡ same p t → b ≡ begins k line
+begins-with k line d e h = h ∙ ap₂ same d e
+
+pub either : {a b : Bool} (c d : Bool) → a ≡ c → b ≡ d → (a || b) ≡ (c || d)
+either c d e f = ap₂ _||_ e f
 
 one-of : (k m : Kind) → Of k ≡ Of m → k ≡ m
 one-of k m e = cc

@@ -4,11 +4,10 @@ use mathlib.Core.Path.{_≡_, refl, sym, ap, _∙_, subst}
 use mathlib.Core.List.{List, [], _∷_}
 use mathlib.Core.Bool.{Bool, true, false, _&&_}
 use native.Mathlib.Omega.{arith}
-use borrow.Author.Needs.{needs}
 use borrow.Author.Tests.{eq-eqb, eqb-true, leb-true}
 use lib.ListN.{length, take, drop, length-take}
 use lib.Dec.{T, leb, eqb}
-use Rattle.machine.specs.Lists.{pick, all, same, isDigit, putIn}
+use Rattle.machine.specs.Lists.{pick, all, same, isDigit, placed, putIn}
 use Rattle.machine.specs.Digits.{pow10, valueOf}
 use Rattle.machine.proofs.Base.{and-first, and-second, true≢false}
 use Rattle.format.specs.Fields.{Field, numeric, filled, optional, free, filler, width, wellFormed, readField}
@@ -17,19 +16,21 @@ use Rattle.format.specs.Rules.{groupOf}
 use Rattle.format.specs.Tests.{Test, Tests}
 use Rattle.format.specs.declared.Group.{Group}
 use Rattle.format.specs.declared.Kind.{Kind}
-use Rattle.format.specs.declared.Kind.the-variants.{FileHeader, BatchHeaderB, BatchHeaderC, FixedDescription, OrderingParty, Transaction, NamePayer, CityPayer, PaymentReference, Description, NameBeneficiary, CityBeneficiary, BatchTrailer, FileTrailer}
+use Rattle.format.specs.declared.Kind.the-variants.{Transaction}
 use Rattle.format.specs.declared.TransactionType.{TransactionType}
 use Rattle.format.specs.declared.TypeRead.{TypeRead}
 use Rattle.format.specs.declared.TypeRead.the-variants.{Of}
+use Rattle.format.proofs.Every.{every}
 use Rattle.format.proofs.Checks.{read-field}
 use Rattle.field.specs.declared.numbers.Digits.{Digits}
 use Rattle.field.specs.Rows.{Row, partAt, firstAnswer, fieldAnswer, rowsAt, checkRows, fieldsAt, firstOr}
 use Rattle.field.specs.Leaf.{noDigits, digitsOf}
 use Rattle.field.proofs.Numerics.{digits-are}
 use Rattle.record.specs.Faults.{faultAt, noFault, firstFault, fieldsOf, testsFor, maximaFor, faultOf}
-use Rattle.record.specs.Read.{transactionFor, itemOf, recordFor, noText, padded, textFor, valueIn, valuesAt, valuesOf, headerFor}
+use Rattle.record.specs.Read.{transactionFor, itemOf, recordFor, noText, padded, textPart, textFor, valueIn, valuesAt, valuesOf, headerFor}
 use Rattle.record.specs.declared.Fault.{Fault}
 use Rattle.record.specs.declared.Batch.{Batch}
+use Rattle.record.specs.declared.read.Part.{Part}
 use Rattle.record.specs.declared.TransactionFields.{TransactionFields}
 use Rattle.record.specs.declared.Record.{Record}
 use Rattle.record.specs.declared.Record.the-variants.{BatchHeader, Item}
@@ -61,14 +62,16 @@ record-via line e h = rw e h
 
 -- ## Texts
 
-pub text-via : {k m : Kind} {x : List ℕ} (line : List ℕ) → k ≡ m → x ≡ textFor m (valuesOf m line) → x ≡ textFor k (valuesOf k line)
-text-via line e h = rw e h
+pub part-via : {k m : Kind} {x : Part} → k ≡ m → x ≡ textPart m → x ≡ textPart k
+part-via e h = rw e h
 
-pub text-put : {p o : List ℕ} (t : List ℕ) → p ≡ t → o ≡ putIn noText 0 p → o ≡ padded t
+text-placed : (k : Kind) (line : List ℕ) → padded (take (textPart k .width) (drop (textPart k .at) line)) ≡ textFor k (valuesOf k line)
+unfolding padded putIn placed pick
+text-placed k line = every (λ k. padded (take (textPart k .width) (drop (textPart k .at) line)) ≡ textFor k (valuesOf k line)) refl refl refl refl refl refl refl refl refl refl refl refl refl refl k
+
+pub text-put : {q : Part} {p o : List ℕ} (k : Kind) (line : List ℕ) → q ≡ textPart k → p ≡ take (q .width) (drop (q .at) line) → o ≡ putIn noText 0 p → o ≡ textFor k (valuesOf k line)
 unfolding padded
-text-put t e h = h ∙ ap (putIn noText 0) e
-
-pub ruleset puts = (text-put, needs)
+text-put k line q e h = h ∙ ap (putIn noText 0) (e ∙ ap (λ (r : Part). take (r .width) (drop (r .at) line)) q) ∙ text-placed k line
 
 -- ## For users: the values of an accepted line are its fields
 
@@ -128,20 +131,7 @@ formed c (f ∷ fs) t xs k h z = by (eqb n 0) refl (formed (c + width f) fs (t .
     by false e g z = absurd (true≢false (sym (eq-eqb n 0 z) ∙ e))
 
 pub narrow-layout : (k : Kind) → narrow (layout k) ≡ true
-narrow-layout FileHeader = refl
-narrow-layout BatchHeaderB = refl
-narrow-layout BatchHeaderC = refl
-narrow-layout FixedDescription = refl
-narrow-layout OrderingParty = refl
-narrow-layout Transaction = refl
-narrow-layout NamePayer = refl
-narrow-layout CityPayer = refl
-narrow-layout PaymentReference = refl
-narrow-layout Description = refl
-narrow-layout NameBeneficiary = refl
-narrow-layout CityBeneficiary = refl
-narrow-layout BatchTrailer = refl
-narrow-layout FileTrailer = refl
+narrow-layout = every (λ k. narrow (layout k) ≡ true) refl refl refl refl refl refl refl refl refl refl refl refl refl refl
 
 pub valued : (said : Bool) (g : Group) (b : Batch) (k : Kind) (xs : List ℕ) → faultOf said g b k xs .number ≡ 0 → valuesOf k xs ≡ fieldsOf k xs
 unfolding faultOf firstFault

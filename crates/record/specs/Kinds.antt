@@ -1,11 +1,26 @@
--- Code and variant looked up in the record table. (No two codes are the same, so the order is of no matter: the records of a payment first, then those of debits, of a batch's frame and of a file's.)
+-- A line by the code and variant that it begins with, and the look-up of these in the record table. (No two codes are the same, so the order is of no matter: the records of a payment first, then those of debits, of a batch's frame and of a file's.)
 use Prim.Native.Nat.{ℕ}
 use mathlib.Core.List.{List}
+use mathlib.Core.Bool.{Bool, _||_}
+use lib.ListN.{take}
 use Rattle.machine.specs.Lists.{pick, same}
 use Rattle.format.specs.Records.{code}
+use Rattle.format.specs.declared.Kind.{Kind}
 use Rattle.format.specs.declared.Kind.the-variants.{FileHeader, BatchHeaderB, BatchHeaderC, FixedDescription, OrderingParty, Transaction, NamePayer, CityPayer, PaymentReference, Description, NameBeneficiary, CityBeneficiary, BatchTrailer, FileTrailer}
 use Rattle.format.specs.declared.Code.{Code}
 use Rattle.format.specs.declared.Code.the-variants.{Of, Unknown}
+
+abbrev pub begins : Kind → List ℕ → Bool
+begins k line = same (take 5 line) (code k)
+
+unfoldable pub isHeader : List ℕ → Bool
+isHeader line = begins BatchHeaderB line || begins BatchHeaderC line
+
+unfoldable pub isName : List ℕ → Bool
+isName line = begins NameBeneficiary line || begins NamePayer line
+
+unfoldable pub isCity : List ℕ → Bool
+isCity line = begins CityBeneficiary line || begins CityPayer line
 
 unfoldable pub fileCode : List ℕ → Code
 fileCode c =

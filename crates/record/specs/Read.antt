@@ -15,6 +15,7 @@ use Rattle.format.specs.declared.TypeRead.the-variants.{Of, NoType}
 use Rattle.field.specs.Rows.{partAt, rowsAt, firstOr}
 use Rattle.field.specs.Leaf.{digitsOf}
 use Rattle.record.specs.Faults.{fieldsOf}
+use Rattle.record.specs.declared.read.Part.{Part}
 use Rattle.record.specs.declared.TransactionFields.{TransactionFields}
 use Rattle.record.specs.declared.TransactionRead.{TransactionRead}
 use Rattle.record.specs.declared.Record.{Record}
@@ -70,6 +71,26 @@ noText = spaces 35
 
 unfoldable pub padded : List ℕ → List ℕ
 padded t = putIn noText 0 t
+
+-- where the text of a record stands: after how many characters of its line, and its width
+abbrev pub partOf : ℕ → ℕ → Part
+partOf at width = record { at = at; width = width }
+
+abbrev pub textPart : Kind → Part
+textPart FileHeader = partOf 19 5
+textPart BatchHeaderB = partOf 0 0
+textPart BatchHeaderC = partOf 24 16
+textPart FixedDescription = partOf 5 32
+textPart OrderingParty = partOf 12 35
+textPart Transaction = partOf 0 0
+textPart NamePayer = partOf 5 35
+textPart CityPayer = partOf 0 0
+textPart PaymentReference = partOf 5 16
+textPart Description = partOf 5 32
+textPart NameBeneficiary = partOf 5 35
+textPart CityBeneficiary = partOf 0 0
+textPart BatchTrailer = partOf 0 0
+textPart FileTrailer = partOf 0 0
 
 abbrev pub textFor : (k : Kind) → Fields k → List ℕ
 textFor FileHeader x = padded (sender x)

@@ -1,12 +1,61 @@
 // Code and variant.
 ghost use mathlib.Core.Path.{_≡_};
 ghost use lib.ListN.{take};
-ghost use Rattle.record.specs.Kinds.{fileCode, batchCode, debitCode, codeOf};
+ghost use Rattle.format.specs.Records.{code};
+ghost use Rattle.record.specs.Kinds.{begins, isHeader, isName, isCity, fileCode, batchCode, debitCode, codeOf};
 use field::bytes::is_same;
 use field::bytes::part;
 use format::Code;
 use format::Kind;
 use format::codes;
+
+// The characters of a code and variant.
+pub fn code_text(kind: Kind) -> [u8; 5]
+    ensures { λ r. ⌜ r ≡ code kind ⌝ }
+{
+    match kind {
+        Kind::FileHeader => codes::FILE_HEADER,
+        Kind::BatchHeaderB => codes::BATCH_HEADER_B,
+        Kind::BatchHeaderC => codes::BATCH_HEADER_C,
+        Kind::FixedDescription => codes::FIXED_DESCRIPTION,
+        Kind::OrderingParty => codes::ORDERING_PARTY,
+        Kind::Transaction => codes::TRANSACTION,
+        Kind::NamePayer => codes::NAME_PAYER,
+        Kind::CityPayer => codes::CITY_PAYER,
+        Kind::PaymentReference => codes::PAYMENT_REFERENCE,
+        Kind::Description => codes::DESCRIPTION,
+        Kind::NameBeneficiary => codes::NAME_BENEFICIARY,
+        Kind::CityBeneficiary => codes::CITY_BENEFICIARY,
+        Kind::BatchTrailer => codes::BATCH_TRAILER,
+        Kind::FileTrailer => codes::FILE_TRAILER,
+    }
+}
+
+// Whether a line begins with a kind's code and variant. For all but the reader, whose own look-up would slow the reading of
+// every line if it had a second caller.
+pub fn begins(line: &[u8], kind: Kind) -> bool
+    ensures { λ r. ⌜ r ≡ begins kind (now (line .entry)) ⌝ }
+{
+    is_same(part(line, 0, 5), &code_text(kind))
+}
+
+pub fn is_header(line: &[u8]) -> bool
+    ensures { λ r. ⌜ r ≡ isHeader (now (line .entry)) ⌝ }
+{
+    begins(line, Kind::BatchHeaderB) | begins(line, Kind::BatchHeaderC)
+}
+
+pub fn is_name(line: &[u8]) -> bool
+    ensures { λ r. ⌜ r ≡ isName (now (line .entry)) ⌝ }
+{
+    begins(line, Kind::NameBeneficiary) | begins(line, Kind::NamePayer)
+}
+
+pub fn is_city(line: &[u8]) -> bool
+    ensures { λ r. ⌜ r ≡ isCity (now (line .entry)) ⌝ }
+{
+    begins(line, Kind::CityBeneficiary) | begins(line, Kind::CityPayer)
+}
 
 // The records of a file's frame.
 fn file_kind(s: &[u8]) -> Code

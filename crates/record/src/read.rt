@@ -4,7 +4,7 @@ ghost use lib.ListN.{take, drop};
 ghost use Rattle.format.specs.declared.Kind.the-variants.{FileHeader, OrderingParty, BatchTrailer};
 ghost use Rattle.format.specs.declared.Kind.the-variants as kinds;
 ghost use Rattle.field.specs.Leaf.{digitsOf};
-ghost use Rattle.record.specs.Read.{transactionFor, itemOf, recordFor, headerFor, padded, textFor, valuesOf};
+ghost use Rattle.record.specs.Read.{transactionFor, itemOf, recordFor, headerFor, textPart, textFor, valuesOf};
 use crate::Record;
 use crate::Transaction;
 use crate::TransactionFields;
@@ -124,32 +124,40 @@ pub fn record_in(kind: Kind, line: &[u8]) -> Record
     }
 }
 
-// A text at the front of 35 places, the others spaces.
-fn text_at(line: &[u8], at: usize, width: usize) -> [u8; 35]
-    ensures { λ r. ⌜ r ≡ padded (take width (drop at (now (line .entry)))) ⌝ }
-{
-    let mut t = [32u8; 35];
-    put(part(line, at, width), 0, &mut t);
-    t
+// A part of a line: after how many characters, and its width.
+pub struct Part {
+    pub at: usize,
+    pub width: usize,
 }
 
+// Where the text of a record stands; nowhere, and of no width, if it has none.
+pub fn text_part(kind: Kind) -> Part
+    ensures { λ r. ⌜ r ≡ textPart kind ⌝ }
+{
+    match kind {
+        Kind::FileHeader => Part { at: 19, width: 5 },
+        Kind::BatchHeaderB => Part { at: 0, width: 0 },
+        Kind::BatchHeaderC => Part { at: 24, width: 16 },
+        Kind::FixedDescription => Part { at: 5, width: 32 },
+        Kind::OrderingParty => Part { at: 12, width: 35 },
+        Kind::Transaction => Part { at: 0, width: 0 },
+        Kind::NamePayer => Part { at: 5, width: 35 },
+        Kind::CityPayer => Part { at: 0, width: 0 },
+        Kind::PaymentReference => Part { at: 5, width: 16 },
+        Kind::Description => Part { at: 5, width: 32 },
+        Kind::NameBeneficiary => Part { at: 5, width: 35 },
+        Kind::CityBeneficiary => Part { at: 0, width: 0 },
+        Kind::BatchTrailer => Part { at: 0, width: 0 },
+        Kind::FileTrailer => Part { at: 0, width: 0 },
+    }
+}
+
+// A record's text at the front of 35 places, the others spaces.
 pub fn text_in(kind: Kind, line: &[u8]) -> [u8; 35]
     ensures { λ r. ⌜ r ≡ textFor kind (valuesOf kind (now (line .entry))) ⌝ }
 {
-    match kind {
-        Kind::FileHeader => text_at(line, 19, 5),
-        Kind::BatchHeaderB => [32u8; 35],
-        Kind::BatchHeaderC => text_at(line, 24, 16),
-        Kind::FixedDescription => text_at(line, 5, 32),
-        Kind::OrderingParty => text_at(line, 12, 35),
-        Kind::Transaction => [32u8; 35],
-        Kind::NamePayer => text_at(line, 5, 35),
-        Kind::CityPayer => [32u8; 35],
-        Kind::PaymentReference => text_at(line, 5, 16),
-        Kind::Description => text_at(line, 5, 32),
-        Kind::NameBeneficiary => text_at(line, 5, 35),
-        Kind::CityBeneficiary => [32u8; 35],
-        Kind::BatchTrailer => [32u8; 35],
-        Kind::FileTrailer => [32u8; 35],
-    }
+    let p = text_part(kind);
+    let mut t = [32u8; 35];
+    put(part(line, p.at, p.width), 0, &mut t);
+    t
 }
