@@ -27,7 +27,8 @@ use Rattle.field.specs.declared.numbers.Digits.{Digits}
 use Rattle.field.proofs.Numerics.{digits-are}
 use Rattle.record.specs.Read.{transactionFor, valueIn, valuesAt, valuesOf}
 use Rattle.record.proofs.Reading.{narrow, narrow-first, narrow-rest, narrow-layout}
-use Rattle.items.specs.Search.{headed, opened, fixed, described, referred, named, isName, isHeader, afterLine, afterRows}
+use Rattle.record.specs.Kinds.{isName, isHeader}
+use Rattle.items.specs.Search.{headed, opened, fixed, described, referred, named, afterLine, afterRows}
 use Rattle.items.specs.declared.Search.{Search}
 
 -- ## The fields of a written line

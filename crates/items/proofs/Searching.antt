@@ -2,18 +2,17 @@
 use Prim.Native.Nat.{ℕ, _+_, _-_, _≤_, _<_}
 use mathlib.Core.Path.{_≡_, refl, sym, _∙_, ap}
 use mathlib.Core.List.{List}
-use mathlib.Core.Bool.{Bool, true, false, _||_}
+use mathlib.Core.Bool.{Bool, true, false}
 use borrow.Author.Needs.{needs}
 use borrow.Author.Tests.{ne-eqb}
 use lib.ListN.{length, take, drop}
 use lib.Dec.{eqb}
 use Rattle.machine.specs.Lists.{pick}
 use Rattle.format.specs.Cutting.{rows}
-use Rattle.format.specs.declared.Kind.the-variants.{BatchHeaderB, BatchHeaderC, NamePayer, NameBeneficiary}
 use Rattle.format.proofs.ByRows.{rows-at, rows-none}
 use Rattle.record.specs.declared.TransactionFields.{TransactionFields}
 use Rattle.descriptions.specs.declared.Descriptions.{Descriptions}
-use Rattle.items.specs.Search.{filledTo, withItem, withFixed, withOwn, referenceIn, withReference, nameIn, withName, searching, finding, opened, fixed, described, referred, named, begins, isName, isHeader, afterLine, afterRows}
+use Rattle.items.specs.Search.{filledTo, withItem, withFixed, withOwn, referenceIn, withReference, nameIn, withName, searching, finding, opened, fixed, described, referred, named, afterLine, afterRows}
 use Rattle.items.specs.declared.ItemFields.{ItemFields}
 use Rattle.items.specs.declared.Found.{Found}
 use Rattle.items.specs.declared.Search.{Search}
@@ -92,17 +91,6 @@ module _ (s : Search) (t : List ℕ) where
 pub ruleset texts = (fixed-in, described-in, referred-in, named-in, fixed-out, described-out, referred-out, named-out, needs)
 
 -- ## Lines
-
-module _ {a b : Bool} (line : List ℕ) where
-  pub either-name : a ≡ begins NameBeneficiary line → b ≡ begins NamePayer line → (a || b) ≡ isName line
-  unfolding isName
-  either-name e f = rw (e, f)
-
-  pub either-header : a ≡ begins BatchHeaderB line → b ≡ begins BatchHeaderC line → (a || b) ≡ isHeader line
-  unfolding isHeader
-  either-header e f = rw (e, f)
-
-pub ruleset eithers = (either-name, either-header, needs)
 
 -- what is left leads to what the whole leads to
 pub record Passing (s : Search) (bytes : List ℕ) (t : Search) (i : ℕ) : Type 0 where

@@ -1,14 +1,13 @@
 -- HOW THE ANSWER IS FOUND: the search for item k of batch b, each from 1, through a file's lines. What to believe of the answer is said in Promises.antt.
 use Prim.Native.Nat.{ℕ, _-_}
 use mathlib.Core.List.{List, [], _∷_, _++_}
-use mathlib.Core.Bool.{Bool, true, false, _||_}
+use mathlib.Core.Bool.{Bool, true, false}
 use lib.ListN.{take}
 use lib.Dec.{eqb}
-use Rattle.machine.specs.Lists.{pick, same, spaces}
-use Rattle.format.specs.Records.{code}
-use Rattle.format.specs.declared.Kind.{Kind}
-use Rattle.format.specs.declared.Kind.the-variants.{BatchHeaderB, BatchHeaderC, FixedDescription, Transaction, NamePayer, PaymentReference, Description, NameBeneficiary}
+use Rattle.machine.specs.Lists.{pick, spaces}
+use Rattle.format.specs.declared.Kind.the-variants.{FixedDescription, Transaction, NamePayer, PaymentReference, Description}
 use Rattle.format.specs.declared.TypeRead.the-variants.{NoType}
+use Rattle.record.specs.Kinds.{begins, isName, isHeader}
 use Rattle.record.specs.Read.{transactionFor, valuesOf}
 use Rattle.record.specs.declared.TransactionFields.{TransactionFields}
 use Rattle.descriptions.specs.Texts.{noTexts, withText}
@@ -93,16 +92,6 @@ referred s t = pick (s .here) (finding s (withReference (s .found) t)) s
 
 unfoldable pub named : Search → List ℕ → Search
 named s t = pick (s .here) (finding s (withName (s .found) t)) s
-
--- a line begins with the code and variant of a kind
-abbrev pub begins : Kind → List ℕ → Bool
-begins k line = same (take 5 line) (code k)
-
-unfoldable pub isName : List ℕ → Bool
-isName line = begins NameBeneficiary line || begins NamePayer line
-
-unfoldable pub isHeader : List ℕ → Bool
-isHeader line = begins BatchHeaderB line || begins BatchHeaderC line
 
 -- a line; one of another kind changes nothing
 unfoldable pub afterLine : Search → List ℕ → Search

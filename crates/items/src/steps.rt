@@ -2,16 +2,18 @@
 ghost use mathlib.Core.Path.{_≡_};
 ghost use Prim.Native.Nat.{_-_};
 ghost use lib.ListN.{take, drop};
-ghost use Rattle.machine.specs.Lists.{same};
 ghost use Rattle.format.specs.Cutting.{rows};
 ghost use Rattle.format.specs.declared.Kind.the-variants as kinds;
 ghost use Rattle.record.specs.Read.{transactionFor, valuesOf};
-ghost use Rattle.items.specs.Search.{started, headed, opened, fixed, described, referred, named, isName, isHeader, afterLine, afterRows};
+ghost use Rattle.items.specs.Search.{started, headed, opened, fixed, described, referred, named};
+ghost use Rattle.items.specs.Search.{afterLine, afterRows};
 use crate::Found;
 use crate::Search;
-use field::bytes::is_same;
 use field::bytes::part;
-use format::codes;
+use format::Kind;
+use record::kinds::begins;
+use record::kinds::is_header;
+use record::kinds::is_name;
 use record::read::transaction_at;
 
 fn less_one(n: u64) -> u64
@@ -21,24 +23,6 @@ fn less_one(n: u64) -> u64
         return 0;
     }
     n - 1
-}
-
-fn begins(line: &[u8], code: &[u8]) -> bool
-    ensures { λ r. ⌜ r ≡ same (take 5 (now (line .entry))) (now (code .entry)) ⌝ }
-{
-    is_same(part(line, 0, 5), code)
-}
-
-fn is_name(line: &[u8]) -> bool
-    ensures { λ r. ⌜ r ≡ isName (now (line .entry)) ⌝ }
-{
-    begins(line, &codes::NAME_BENEFICIARY) | begins(line, &codes::NAME_PAYER)
-}
-
-fn is_header(line: &[u8]) -> bool
-    ensures { λ r. ⌜ r ≡ isHeader (now (line .entry)) ⌝ }
-{
-    begins(line, &codes::BATCH_HEADER_B) | begins(line, &codes::BATCH_HEADER_C)
 }
 
 impl Search {
@@ -129,23 +113,23 @@ impl Search {
         search
     }
 
-    // A line, by the code and variant that it begins with. (The reader's own look-up is not called: a second caller would slow the reading of every line.)
+    // A line, by the code and variant that it begins with.
     fn line(self, line: &[u8]) -> Search
         ensures { λ r. ⌜ r ≡ afterLine self (now (line .entry)) ⌝ }
     {
-        if begins(line, &codes::TRANSACTION) {
+        if begins(line, Kind::Transaction) {
             return self.opened(line);
         }
-        if begins(line, &codes::PAYMENT_REFERENCE) {
+        if begins(line, Kind::PaymentReference) {
             return self.referred(line);
         }
-        if begins(line, &codes::DESCRIPTION) {
+        if begins(line, Kind::Description) {
             return self.described(line);
         }
         if is_name(line) {
             return self.named(line);
         }
-        if begins(line, &codes::FIXED_DESCRIPTION) {
+        if begins(line, Kind::FixedDescription) {
             return self.fixed(line);
         }
         if is_header(line) {

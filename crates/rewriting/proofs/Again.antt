@@ -44,7 +44,8 @@ use Rattle.writer.specs.declared.Written.{Written}
 use Rattle.writer.proofs.Accepting.{step-front}
 use Rattle.writer.proofs.Again.{written-again}
 use Rattle.file.proofs.Meaning.{means}
-use Rattle.rewriting.specs.Cities.{isCity, keptLine, keptOf, withoutCities}
+use Rattle.record.specs.Kinds.{isCity}
+use Rattle.rewriting.specs.Cities.{keptLine, keptOf, withoutCities}
 use Rattle.rewriting.specs.Promises.{noCity, Rewrites, ended, city, written, Again, Promised}
 use Rattle.rewriting.specs.declared.Rewritten.{Rewritten}
 use Rattle.rewriting.proofs.Behind.{isCityKind, Behind, alike, within-behind, taken-too, behind-too, behind-city, city-kind}

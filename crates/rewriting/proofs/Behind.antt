@@ -30,7 +30,7 @@ use Rattle.reading.specs.declared.Name.the-variants.{Unwanted, Due, Read, Past}
 use Rattle.reading.specs.declared.State.{State}
 use Rattle.reading.proofs.Limits.{within-line}
 use Rattle.reading.proofs.Verdicts.{Taken}
-use Rattle.rewriting.specs.Cities.{isCity}
+use Rattle.record.specs.Kinds.{isCity}
 
 -- ## Cities
 

@@ -2,20 +2,19 @@
 use Prim.Native.Nat.{ℕ, _+_, _≤_, _<_}
 use mathlib.Core.Path.{_≡_, refl, sym, ap, ap₂, _∙_}
 use mathlib.Core.List.{List, [], _++_, append-assoc, append-nil}
-use mathlib.Core.Bool.{Bool, true, false, _||_}
+use mathlib.Core.Bool.{Bool, true, false}
 use native.Mathlib.Omega.{arith}
 use borrow.Author.Needs.{needs}
 use borrow.Author.Tests.{eq-eqb, ne-eqb, le-leb, lt-leb}
 use lib.ListN.{length, take, drop, length-append, length-take, length-drop}
-use Rattle.machine.specs.Lists.{pick, same, placed, putIn}
+use Rattle.machine.specs.Lists.{pick, placed, putIn}
 use Rattle.format.specs.Cutting.{rows}
-use Rattle.format.specs.Records.{code}
-use Rattle.format.specs.declared.Kind.the-variants.{CityPayer, CityBeneficiary}
 use Rattle.format.proofs.ByRows.{rows-at, rows-none}
 use Rattle.field.proofs.Putting.{put-fits, put-fitting, put-long, length-placed, placed-both}
 use Rattle.reading.specs.Check.{checkOf}
 use Rattle.reading.specs.declared.Answer.{Answer}
-use Rattle.rewriting.specs.Cities.{isCity, keptLine, keptOf, withoutCities}
+use Rattle.record.specs.Kinds.{isCity}
+use Rattle.rewriting.specs.Cities.{keptLine, keptOf, withoutCities}
 use Rattle.rewriting.specs.Rewriting.{told, rewrittenBy, roomBy, rewrittenOf, roomAfter}
 use Rattle.rewriting.specs.declared.Rewritten.{Rewritten}
 
@@ -29,11 +28,7 @@ pub kept-no : {q : Bool} (line : List ℕ) → q ≡ isCity line → q ≡ false
 unfolding keptLine pick
 kept-no line e h = rw (← e, h)
 
-pub city-either : {c : List ℕ} {p q : Bool} (line : List ℕ) → c ≡ take 5 (drop 0 line) → p ≡ same c (code CityPayer) → q ≡ same c (code CityBeneficiary) → (p || q) ≡ isCity line
-unfolding isCity
-city-either line e h k = ap₂ (λ x y. x || y) (h ∙ ap (λ c. same c (code CityPayer)) e) (k ∙ ap (λ c. same c (code CityBeneficiary)) e)
-
-pub ruleset cities = (city-either, kept-yes, kept-no, needs)
+pub ruleset cities = (kept-yes, kept-no, needs)
 
 line-short : (line : List ℕ) → length (keptLine line) ≤ length line
 unfolding keptLine pick

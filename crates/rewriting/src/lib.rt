@@ -5,13 +5,12 @@ ghost use mathlib.Core.Path.{_≡_};
 ghost use Prim.Native.Nat.{_≤_};
 ghost use lib.ListN.{length};
 ghost use Rattle.machine.specs.Lists.{placed};
-ghost use Rattle.rewriting.specs.Cities.{isCity, keptLine, withoutCities};
+ghost use Rattle.rewriting.specs.Cities.{keptLine, withoutCities};
 ghost use Rattle.rewriting.specs.Promises.{Promised};
 ghost use Rattle.rewriting.specs.Rewriting.{rewrittenOf, roomAfter};
-use field::bytes::is_same;
 use field::bytes::part;
 use field::bytes::put;
-use format::codes;
+use record::kinds::is_city;
 
 // What a file to write again is answered, and how many bytes were written.
 pub struct Rewritten {
@@ -19,14 +18,6 @@ pub struct Rewritten {
     pub line: u64,
     pub column: u8,
     pub written: usize,
-}
-
-// By its code and variant. (The reader's own look-up is not called: a second caller would slow the reading of every line.)
-fn is_city(line: &[u8]) -> bool
-    ensures { λ r. ⌜ r ≡ isCity (now (line .entry)) ⌝ }
-{
-    let code = part(line, 0, 5);
-    is_same(code, &codes::CITY_PAYER) | is_same(code, &codes::CITY_BENEFICIARY)
 }
 
 // A line, or nothing of a city's.

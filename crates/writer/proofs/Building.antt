@@ -21,7 +21,9 @@ use Rattle.format.specs.declared.Group.{Group}
 use Rattle.format.specs.declared.Group.the-variants.{Payments, Debits}
 use Rattle.format.specs.declared.TransactionType.{TransactionType}
 use Rattle.format.specs.declared.TransactionType.the-variants.{UncheckedCreditor, UncheckedSalary, Creditor, Salary, Debit, UncheckedDebit}
+use Rattle.format.specs.declared.Kind.{Kind}
 use Rattle.format.specs.declared.Kind.the-variants as kinds
+use Rattle.format.proofs.Link.{line-widths}
 use Rattle.record.specs.declared.Transaction.{Transaction}
 use Rattle.reading.specs.declared.State.{State}
 use Rattle.writer.specs.Encoding.{unfit, numberIn, textIn, blankIn, lineEnd, encodedLine, testText}
@@ -151,8 +153,8 @@ module _ {l d m : List ℕ} (w n a : ℕ) (b : Built l d a (w + n)) where
 start : (c : List ℕ) {l : List ℕ} → length c ≡ 5 → l ≡ c ++ (spaces 45 ++ lineEnd) → Built l c 5 45
 start c h e = record { is = e; long = h }
 
-pub code-put : {l x : List ℕ} (c : List ℕ) → length c ≡ 5 → l ≡ spaces 50 ++ lineEnd → x ≡ putIn l 0 c → x ≡ c ++ (spaces 45 ++ lineEnd)
-code-put {l} c h f e = let b : Built l [] 0 (5 + 45) = record { is = f; long = refl } in field 5 45 0 b c h e .is
+pub code-put : {l x c : List ℕ} (k : Kind) → c ≡ code k → l ≡ spaces 50 ++ lineEnd → x ≡ putIn l 0 c → x ≡ code k ++ (spaces 45 ++ lineEnd)
+code-put {l} k h f e = let b : Built l [] 0 (5 + 45) = record { is = f; long = refl } in field 5 45 0 b (code k) (line-widths k .0) (e ∙ ap (putIn l 0) h) .is
 
 -- ## The kinds
 
@@ -220,11 +222,11 @@ item-is x t p q u v w m =
     let b5 = blank 9 0 41 b4 t (omega arith) m in
     b5 .is ∙ simp (append-assoc, append-nil)
 
-pub text-line-is : (c : List ℕ) (w : ℕ) (t : List ℕ) {a r : List ℕ} → length t ≡ 35 → length c ≡ 5 → w ≤ 35 → a ≡ coded c → r ≡ putIn a 5 (textIn w t) → r ≡ encodedLine c (filled w ∷ filler (45 - w) ∷ []) (t, ([], tt))
+pub text-line-is : (k : Kind) (w : ℕ) (t : List ℕ) {a r : List ℕ} → length t ≡ 35 → w ≤ 35 → a ≡ coded (code k) → r ≡ putIn a 5 (textIn w t) → r ≡ encodedLine (code k) (filled w ∷ filler (45 - w) ∷ []) (t, ([], tt))
 unfolding encodedLine blankIn pick
-text-line-is c w t {a} h n o p q =
+text-line-is k w t {a} h o p q =
     let z : 45 ≡ w + (45 - w) = omega arith in
-    let b1 = given w (45 - w) 5 (subst (Built a c 5) z (start c n p)) t (omega arith) (omega arith) q in
+    let b1 = given w (45 - w) 5 (subst (Built a (code k) 5) z (start (code k) (line-widths k .0) p)) t (omega arith) (omega arith) q in
     b1 .is ∙ simp (append-assoc, append-nil)
 
 pub batch-trailer-is : (x y z : ℕ) (t : List ℕ) {a b c d r : List ℕ} → a ≡ coded (code kinds.BatchTrailer) → b ≡ putIn a 5 (numberIn 18 x) → c ≡ putIn b 23 (numberIn 10 y) → d ≡ putIn c 33 (numberIn 7 z)

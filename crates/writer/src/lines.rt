@@ -2,7 +2,6 @@
 ghost use mathlib.Core.Path.{_≡_};
 ghost use mathlib.Core.List.{[], _∷_, _++_};
 ghost use Prim.Native.Nat.{_-_, _≤_};
-ghost use lib.ListN.{length};
 ghost use Rattle.machine.specs.Lists.{spaces};
 ghost use Rattle.format.specs.Fields.{filled, filler};
 ghost use Rattle.format.specs.Records.{layout, code};
@@ -20,25 +19,26 @@ use crate::fields::put_test;
 use crate::fields::put_text;
 use crate::fields::put_type;
 use format::Group;
+use format::Kind;
 use format::codes;
 use reading::State;
 use record::Transaction;
+use record::kinds::code_text;
 
 // Spaces after the code.
-fn coded(code: &[u8]) -> [u8; 52]
-    requires { ⌜ length (now code) ≡ 5 ⌝ }
-    ensures { λ r. ⌜ r ≡ now (code .entry) ++ (spaces 45 ++ lineEnd) ⌝ }
+fn coded(kind: Kind) -> [u8; 52]
+    ensures { λ r. ⌜ r ≡ code kind ++ (spaces 45 ++ lineEnd) ⌝ }
 {
     let mut line = [32u8; 52];
     line[50] = 13;
     line[51] = 10;
-    put_bytes(line, 0, code)
+    put_bytes(line, 0, &code_text(kind))
 }
 
 fn file_header(created: u64, identification: u64, duplicate: u64, text: [u8; 35]) -> [u8; 52]
     ensures { λ r. ⌜ r ≡ encodedLine (code FileHeader) (layout FileHeader) (fileHeaderGiven created identification duplicate text) ⌝ }
 {
-    let a = put_number(coded(&codes::FILE_HEADER), 5, 6, created);
+    let a = put_number(coded(Kind::FileHeader), 5, 6, created);
     let b = put_bytes(a, 11, &codes::FILE_NAME);
     let c = put_text(b, 19, 5, &text);
     let d = put_number(c, 24, 4, identification);
@@ -65,17 +65,17 @@ fn batch_header(
     ensures { λ r. ⌜ r ≡ batchHeaderLine identified group account sequence text ⌝ }
 {
     if identified {
-        let c = put_header(coded(&codes::BATCH_HEADER_C), group, account, sequence);
+        let c = put_header(coded(Kind::BatchHeaderC), group, account, sequence);
         return put_text(c, 24, 16, &text);
     }
-    let b = put_header(coded(&codes::BATCH_HEADER_B), group, account, sequence);
+    let b = put_header(coded(Kind::BatchHeaderB), group, account, sequence);
     put_blank(b, 24, 16, &text)
 }
 
 fn ordering_party(name_code: u64, desired: u64, test: bool, text: [u8; 35]) -> [u8; 52]
     ensures { λ r. ⌜ r ≡ encodedLine (code OrderingParty) (layout OrderingParty) (orderingPartyGiven «name_code» desired test text) ⌝ }
 {
-    let a = put_number(coded(&codes::ORDERING_PARTY), 5, 1, name_code);
+    let a = put_number(coded(Kind::OrderingParty), 5, 1, name_code);
     let b = put_number(a, 6, 6, desired);
     let c = put_text(b, 12, 35, &text);
     put_test(c, test)
@@ -85,7 +85,7 @@ fn item(t: Transaction, text: [u8; 35]) -> [u8; 52]
     ensures { λ r. ⌜ r ≡ encodedLine (code kinds.Transaction) (layout kinds.Transaction) (itemGiven t text) ⌝ }
 {
     let kind = t.kind;
-    let a = put_type(coded(&codes::TRANSACTION), kind);
+    let a = put_type(coded(Kind::Transaction), kind);
     let b = put_number(a, 9, 12, t.amount);
     let c = put_number(b, 21, 10, t.payer);
     let d = put_number(c, 31, 10, t.beneficiary);
@@ -93,18 +93,17 @@ fn item(t: Transaction, text: [u8; 35]) -> [u8; 52]
 }
 
 // A record that is its text.
-fn text_line(code: &[u8], width: usize, text: [u8; 35]) -> [u8; 52]
-    requires code { ⌜ length (now code) ≡ 5 ⌝ }
-    requires width { ⌜ width ≤ 35 ⌝ }
-    ensures { λ r. ⌜ r ≡ encodedLine (now (code .entry)) (filled width ∷ filler (45 - width) ∷ []) (text, ([], tt)) ⌝ }
+fn text_line(kind: Kind, width: usize, text: [u8; 35]) -> [u8; 52]
+    requires { ⌜ width ≤ 35 ⌝ }
+    ensures { λ r. ⌜ r ≡ encodedLine (code kind) (filled width ∷ filler (45 - width) ∷ []) (text, ([], tt)) ⌝ }
 {
-    put_text(coded(code), 5, width, &text)
+    put_text(coded(kind), 5, width, &text)
 }
 
 fn batch_trailer(total: u64, accounts: u64, items: u64, text: [u8; 35]) -> [u8; 52]
     ensures { λ r. ⌜ r ≡ encodedLine (code BatchTrailer) (layout BatchTrailer) (batchTrailerGiven total accounts items text) ⌝ }
 {
-    let a = put_number(coded(&codes::BATCH_TRAILER), 5, 18, total);
+    let a = put_number(coded(Kind::BatchTrailer), 5, 18, total);
     let b = put_number(a, 23, 10, accounts);
     let c = put_number(b, 33, 7, items);
     put_blank(c, 40, 10, &text)
@@ -113,7 +112,7 @@ fn batch_trailer(total: u64, accounts: u64, items: u64, text: [u8; 35]) -> [u8; 
 fn file_trailer(text: [u8; 35]) -> [u8; 52]
     ensures { λ r. ⌜ r ≡ encodedLine (code FileTrailer) (layout FileTrailer) (text, tt) ⌝ }
 {
-    put_blank(coded(&codes::FILE_TRAILER), 5, 45, &text)
+    put_blank(coded(Kind::FileTrailer), 5, 45, &text)
 }
 
 // The line of a record to write, with the trailer's numbers from the state.
@@ -132,17 +131,17 @@ pub(crate) fn entry_line(state: State, entry: Entry, text: [u8; 35]) -> [u8; 52]
             sequence,
             identified,
         } => batch_header(group, account, sequence, identified, text),
-        Entry::FixedDescription => text_line(&codes::FIXED_DESCRIPTION, 32, text),
+        Entry::FixedDescription => text_line(Kind::FixedDescription, 32, text),
         Entry::OrderingParty {
             code,
             desired,
             test,
         } => ordering_party(code, desired, test, text),
         Entry::Item(t) => item(t, text),
-        Entry::NamePayer => text_line(&codes::NAME_PAYER, 35, text),
-        Entry::PaymentReference => text_line(&codes::PAYMENT_REFERENCE, 16, text),
-        Entry::Description => text_line(&codes::DESCRIPTION, 32, text),
-        Entry::NameBeneficiary => text_line(&codes::NAME_BENEFICIARY, 35, text),
+        Entry::NamePayer => text_line(Kind::NamePayer, 35, text),
+        Entry::PaymentReference => text_line(Kind::PaymentReference, 16, text),
+        Entry::Description => text_line(Kind::Description, 32, text),
+        Entry::NameBeneficiary => text_line(Kind::NameBeneficiary, 35, text),
         Entry::BatchTrailer => batch_trailer(
             state.batch.total,
             state.batch.accounts,

@@ -9,22 +9,18 @@ unfolding afterLine
 line-spec =
     tie.close
     (tie.spec
-    (λ c. search (pick-yes, pick-no, told) depth 20 fits 10000)  -- slice-aggregate-begins
     (λ c κs. search needs)  -- begins-requires
     (λ c κs. search needs)  -- opened-requires
     (λ c. search (pick-yes, pick-no, told) depth 20 fits 10000)  -- returns
-    (λ c. search (pick-yes, pick-no, told) depth 20 fits 10000)  -- slice-aggregate-begins-2
     (λ c κs. search needs)  -- begins-requires-2
     (λ c κs. search needs)  -- referred-requires
     (λ c. search (pick-yes, pick-no, told) depth 20 fits 10000)  -- returns-2
-    (λ c. search (pick-yes, pick-no, told) depth 20 fits 10000)  -- slice-aggregate-begins-3
     (λ c κs. search needs)  -- begins-requires-3
     (λ c κs. search needs)  -- described-requires
     (λ c. search (pick-yes, pick-no, told) depth 20 fits 10000)  -- returns-3
     (λ c κs. search needs)  -- is-name-requires
     (λ c κs. search needs)  -- named-requires
     (λ c. search (pick-yes, pick-no, told) depth 20 fits 10000)  -- returns-4
-    (λ c. search (pick-yes, pick-no, told) depth 20 fits 10000)  -- slice-aggregate-begins-4
     (λ c κs. search needs)  -- begins-requires-4
     (λ c κs. search needs)  -- fixed-requires
     (λ c. search (pick-yes, pick-no, told) depth 20 fits 10000)  -- returns-5

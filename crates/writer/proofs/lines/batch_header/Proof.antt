@@ -7,13 +7,11 @@ pub batch-header-spec : {M : Type 1} → statement M
 batch-header-spec =
     tie.close
     (tie.spec
-    (λ c. search needs)  -- slice-aggregate-coded
     (λ c κs. search needs)  -- coded-requires
     (λ c κs. search needs)  -- put-header-requires
     (λ c. search needs)  -- slice-aggregate-put-text
     (λ c κs. search needs)  -- put-text-requires
     (λ c. search builds depth 20 fits 10000)  -- returns
-    (λ c. search needs)  -- slice-aggregate-coded-2
     (λ c κs. search needs)  -- coded-requires-2
     (λ c κs. search needs)  -- put-header-requires-2
     (λ c. search needs)  -- slice-aggregate-put-blank

@@ -9,6 +9,8 @@ coded-spec =
     (tie.spec
     (λ c. search needs)  -- array-write-line
     (λ c. search needs)  -- array-write-line-2
+    (λ c κs. search needs)  -- code-text-requires
+    (λ c. search needs)  -- slice-aggregate-put-bytes
     (λ c κs. search needs)  -- put-bytes-requires
     (λ c. search builds depth 20 fits 10000)  -- returns
     )

@@ -12,23 +12,18 @@ entry-line-spec =
     (λ c. search needs)  -- enum-known-entry-2
     (λ c κs. search needs)  -- batch-header-requires
     (λ c. search needs)  -- enum-told
-    (λ c. search needs)  -- slice-aggregate-text-line
     (λ c κs. search needs)  -- text-line-requires
     (λ c. search needs)  -- enum-known-entry-3
     (λ c κs. search needs)  -- ordering-party-requires
     (λ c. search needs)  -- enum-known-entry-4
     (λ c κs. search needs)  -- item-requires
     (λ c. search needs)  -- enum-told-2
-    (λ c. search needs)  -- slice-aggregate-text-line-2
     (λ c κs. search needs)  -- text-line-requires-2
     (λ c. search needs)  -- enum-told-3
-    (λ c. search needs)  -- slice-aggregate-text-line-3
     (λ c κs. search needs)  -- text-line-requires-3
     (λ c. search needs)  -- enum-told-4
-    (λ c. search needs)  -- slice-aggregate-text-line-4
     (λ c κs. search needs)  -- text-line-requires-4
     (λ c. search needs)  -- enum-told-5
-    (λ c. search needs)  -- slice-aggregate-text-line-5
     (λ c κs. search needs)  -- text-line-requires-5
     (λ c. search needs)  -- enum-told-6
     (λ c κs. search needs)  -- batch-trailer-requires

@@ -7,7 +7,6 @@ pub file-header-spec : {M : Type 1} → statement M
 file-header-spec =
     tie.close
     (tie.spec
-    (λ c. search needs)  -- slice-aggregate-coded
     (λ c κs. search needs)  -- coded-requires
     (λ c κs. search needs)  -- put-number-requires
     (λ c. search needs)  -- slice-aggregate-put-bytes

@@ -7,7 +7,6 @@ pub file-trailer-spec : {M : Type 1} → statement M
 file-trailer-spec =
     tie.close
     (tie.spec
-    (λ c. search needs)  -- slice-aggregate-coded
     (λ c κs. search needs)  -- coded-requires
     (λ c. search needs)  -- slice-aggregate-put-blank
     (λ c κs. search needs)  -- put-blank-requires

@@ -7,7 +7,6 @@ pub item-spec : {M : Type 1} → statement M
 item-spec =
     tie.close
     (tie.spec
-    (λ c. search needs)  -- slice-aggregate-coded
     (λ c κs. search needs)  -- coded-requires
     (λ c κs. search needs)  -- put-type-requires
     (λ c κs. search needs)  -- put-number-requires

@@ -7,7 +7,6 @@ pub ordering-party-spec : {M : Type 1} → statement M
 ordering-party-spec =
     tie.close
     (tie.spec
-    (λ c. search needs)  -- slice-aggregate-coded
     (λ c κs. search needs)  -- coded-requires
     (λ c κs. search needs)  -- put-number-requires
     (λ c κs. search needs)  -- put-number-requires-2
