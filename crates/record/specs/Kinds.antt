@@ -20,7 +20,7 @@ unfoldable pub isName : List ℕ → Bool
 isName line = begins NameBeneficiary line || begins NamePayer line
 
 unfoldable pub isCity : List ℕ → Bool
-isCity line = begins CityBeneficiary line || begins CityPayer line
+isCity line = begins CityPayer line || begins CityBeneficiary line
 
 unfoldable pub fileCode : List ℕ → Code
 fileCode c =

@@ -31,8 +31,8 @@ pub fn code_text(kind: Kind) -> [u8; 5]
     }
 }
 
-// Whether a line begins with a kind's code and variant. For all but the reader, whose own look-up would slow the reading of
-// every line if it had a second caller.
+// Whether a line begins with a kind's code and variant. (A second caller of the look-up, `code_of`, would slow the
+// reading of every line.)
 pub fn begins(line: &[u8], kind: Kind) -> bool
     ensures { λ r. ⌜ r ≡ begins kind (now (line .entry)) ⌝ }
 {
@@ -54,7 +54,7 @@ pub fn is_name(line: &[u8]) -> bool
 pub fn is_city(line: &[u8]) -> bool
     ensures { λ r. ⌜ r ≡ isCity (now (line .entry)) ⌝ }
 {
-    begins(line, Kind::CityBeneficiary) | begins(line, Kind::CityPayer)
+    begins(line, Kind::CityPayer) | begins(line, Kind::CityBeneficiary)
 }
 
 // The records of a file's frame.

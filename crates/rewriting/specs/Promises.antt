@@ -16,7 +16,7 @@ use Rattle.writer.specs.Entries.{lineFor}
 use Rattle.writer.specs.Writing.{writtenOf}
 use Rattle.writer.specs.Promises.{entryOf}
 use Rattle.writer.specs.declared.Entry.{Entry}
-use Rattle.rewriting.specs.Cities.{isCity}
+use Rattle.record.specs.Kinds.{isCity}
 use Rattle.rewriting.specs.declared.Rewritten.{Rewritten}
 
 -- none of some lines is a city's
