@@ -45,9 +45,10 @@ fn put_group(page: &mut [u8], at: usize, group: Group) -> usize {
 
 // The batch that a state is in.
 fn put_batch(page: &mut [u8], at: usize, state: State) -> usize {
+    let before = state.before;
+    let group = before.group;
     let batch = state.batch;
-    let group = state.group;
-    let a = put_number(page, at, b"batch=", batch.sequence, 4);
+    let a = put_number(page, at, b"batch=", before.sequence, 4);
     let b = put_group(page, a, group);
     let c = put_number(page, b, b"account=", batch.account, 10);
     let d = put_number(page, c, b"items=", batch.items, 1);
