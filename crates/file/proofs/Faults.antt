@@ -8,7 +8,7 @@ use native.Mathlib.Omega.{arith}
 use borrow.Author.Tests.{ne-eqb}
 use lib.ListN.{take, drop}
 use lib.Seq.{take-take, take-nil, drop-drop}
-use lib.Dec.{T, leb, leb→le}
+use lib.Dec.{T, leb, leb→le, eqb→eq}
 use Rattle.machine.specs.Lists.{pick}
 use Rattle.machine.proofs.Base.{refuse, and-l, and-r}
 use Rattle.format.specs.Fields.{Field, width, widths, wellFormed, readField, readFields}
@@ -20,6 +20,8 @@ use Rattle.format.specs.declared.Group.{Group}
 use Rattle.format.proofs.Checks.{judge, Pass, Holds, fieldChecks, lineChecks, field-passed}
 use Rattle.format.proofs.Reader.{State, begin}
 use Rattle.field.specs.Rows.{Row, row, partAt, firstAnswer, fieldAnswer, rowsAt, checkRows, fieldsAt, firstOr}
+use Rattle.record.specs.Read.{recordFor}
+use Rattle.record.specs.declared.Record.the-variants as the
 use Rattle.record.specs.declared.Fault.{Fault}
 use Rattle.record.specs.declared.Before.{Before}
 use Rattle.record.specs.declared.Batch.{Batch}
@@ -165,3 +167,9 @@ faultless p b k line e = by (same-faults begin p b k line) e
     by : {f : Fault} → Same begin (lineChecks 6 (layout k) (testsFor p b k (fieldsOf k line)) (partAt 6 (widths (layout k)) line) (maximaFor b k (fieldsOf k line))) f → f .number ≡ 0 → Holds (layout k) (testsFor p b k (fieldsOf k line))
     by (passed h) e = all-hold 6 (layout k) (testsFor p b k (fieldsOf k line)) (partAt 6 (widths (layout k)) line) (maximaFor b k (fieldsOf k line)) h
     by (stopped c n z q) e = absurd (omega arith)
+
+-- a trailer that is accepted says what the batch has
+pub trailer-says : (p : Before) (b : Batch) (line : List ℕ) → faultOf p b BatchTrailer line .number ≡ 0 → recordFor BatchTrailer (fieldsOf BatchTrailer line) ≡ the.BatchTrailer (b .total) (b .accounts) (b .items)
+trailer-says p b line e =
+    let h = faultless p b BatchTrailer line e in
+    rw (eqb→eq _ (b .total) (h .0 .1 .0), eqb→eq _ (b .accounts) (h .1 .0 .0), eqb→eq _ (b .items) (h .1 .1 .0 .1 .0))

@@ -18,6 +18,7 @@ use Rattle.record.specs.Faults.{afterHeader, emptyBatch, fieldsOf, faultOf}
 use Rattle.record.specs.Read.{transactionFor, recordFor, textFor, noText}
 use Rattle.record.specs.declared.Before.{Before}
 use Rattle.record.specs.declared.Batch.{Batch}
+use Rattle.record.specs.declared.ClosedBatch.{ClosedBatch}
 use Rattle.record.specs.declared.Fault.{Fault}
 use Rattle.record.specs.declared.TransactionFields.{TransactionFields}
 use Rattle.record.specs.declared.Record.the-variants.{Nothing}
@@ -90,6 +91,10 @@ texted s r n = onward s (s .stage) (s .before) (s .batch) (record { name = after
 -- a closed batch leaves its group and number
 abbrev pub closed : State → State
 closed s = onward s Closed (afterHeader (s .before) (s .before .group) (s .before .sequence)) emptyBatch noItem
+
+-- the batch that a trailer closes, as the state before the trailer has it. (Its items, total and account sum are those of a trailer that is accepted: `trailer-says` in file/proofs/Faults.antt.)
+abbrev pub closing : State → ClosedBatch
+closing s = record { group = s .before .group; account = s .batch .account; sequence = s .before .sequence; items = s .batch .items; total = s .batch .total; accounts = s .batch .accounts }
 
 abbrev pub nextFor : State → (k : Kind) → Fields k → State
 nextFor s FileHeader x = moved s Headed

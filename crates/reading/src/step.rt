@@ -5,7 +5,7 @@ ghost use Rattle.format.specs.Rules.{maxFixed};
 ghost use Rattle.record.specs.Read.{valuesOf};
 ghost use Rattle.format.specs.declared.Kind.the-variants.{BatchHeaderB};
 ghost use Rattle.reading.specs.State.{Limited, maxLine};
-ghost use Rattle.reading.specs.Step.{onward, moved, openedBatch, opened, fixedOne, withFixed, paidBatch, nameIf, openedItem, paid, named, afterText, texted, closed, nextFor};
+ghost use Rattle.reading.specs.Step.{onward, moved, openedBatch, opened, fixedOne, withFixed, paidBatch, nameIf, openedItem, paid, named, afterText, texted, closed, closing, nextFor};
 ghost use Rattle.reading.specs.Bounds.{Roomy, Bounded};
 use crate::Name;
 use crate::OpenItem;
@@ -15,6 +15,7 @@ use crate::no_item;
 use format::Kind;
 use record::Batch;
 use record::Before;
+use record::ClosedBatch;
 use record::TransactionFields;
 use record::read::transaction_at;
 use record::read::value_at;
@@ -200,6 +201,23 @@ impl State {
         let batch = Batch::empty();
         let item = no_item();
         self.onward(Stage::Closed, before, batch, item)
+    }
+
+    // The batch that a trailer closes, as the state before the trailer has it.
+    pub fn closing(self) -> ClosedBatch
+        ensures { λ r. ⌜ r ≡ closing self ⌝ }
+    {
+        let before = self.before;
+        let group = before.group;
+        let batch = self.batch;
+        ClosedBatch {
+            group,
+            account: batch.account,
+            sequence: before.sequence,
+            items: batch.items,
+            total: batch.total,
+            accounts: batch.accounts,
+        }
     }
 
     // The state after a line of that kind.
