@@ -3,11 +3,12 @@ use Prim.Native.Nat.{ℕ, zero, suc, _+_, _-_, _≤_}
 use mathlib.Core.Path.{_≡_, refl, sym, ap, _∙_, subst}
 use mathlib.Core.List.{List, [], _∷_}
 use mathlib.Core.Bool.{Bool, true, false, _&&_}
+use mathlib.Core.Option.{Option, none, some}
 use native.Mathlib.Omega.{arith}
 use borrow.Author.Tests.{ne-eqb}
 use lib.ListN.{take, drop}
 use lib.Seq.{take-take, take-nil, drop-drop}
-use lib.Dec.{T, leb, leb→le}
+use lib.Dec.{T, leb, leb→le, eqb→eq}
 use Rattle.machine.specs.Lists.{pick}
 use Rattle.machine.proofs.Base.{refuse, and-l, and-r}
 use Rattle.format.specs.Fields.{Field, width, widths, wellFormed, readField, readFields}
@@ -19,9 +20,12 @@ use Rattle.format.specs.declared.Group.{Group}
 use Rattle.format.proofs.Checks.{judge, Pass, Holds, fieldChecks, lineChecks, field-passed}
 use Rattle.format.proofs.Reader.{State, begin}
 use Rattle.field.specs.Rows.{Row, row, partAt, firstAnswer, fieldAnswer, rowsAt, checkRows, fieldsAt, firstOr}
+use Rattle.record.specs.Read.{recordFor}
+use Rattle.record.specs.declared.Record.the-variants as the
 use Rattle.record.specs.declared.Fault.{Fault}
+use Rattle.record.specs.declared.Before.{Before}
 use Rattle.record.specs.declared.Batch.{Batch}
-use Rattle.record.specs.Faults.{faultAt, noFault, firstFault, fieldsOf, testsFor, maximaFor, faultOf, groupSaid}
+use Rattle.record.specs.Faults.{faultAt, noFault, firstFault, fieldsOf, testsFor, maximaFor, faultOf, knownGroup}
 
 -- ## Fields by their columns
 
@@ -59,25 +63,25 @@ abbrev checksAnswered : List Check → Bool
 checksAnswered [] = true
 checksAnswered (check b n c ∷ cs) = leb 1 n && checksAnswered cs
 
-header-answered : (said : Bool) (g : Group) (before : ℕ) (x : Fields BatchHeaderB) → T (allAnswered (layout BatchHeaderB) (batchHeaderTests (groupSaid said g) before x))
-header-answered true g before x = tt
-header-answered false g before x = tt
+header-answered : (o : Option Group) (before : ℕ) (x : Fields BatchHeaderB) → T (allAnswered (layout BatchHeaderB) (batchHeaderTests o before x))
+header-answered (some g) before x = tt
+header-answered none before x = tt
 
-tests-answered : (said : Bool) (g : Group) (b : Batch) (k : Kind) (x : Fields k) → T (allAnswered (layout k) (testsFor said g b k x))
-tests-answered said g b FileHeader x = tt
-tests-answered said g b BatchHeaderB x = header-answered said g (b .sequence) x
-tests-answered said g b BatchHeaderC x = header-answered said g (b .sequence) (unidentified x)
-tests-answered said g b FixedDescription x = tt
-tests-answered said g b OrderingParty x = tt
-tests-answered said g b Transaction x = tt
-tests-answered said g b NamePayer x = tt
-tests-answered said g b CityPayer x = tt
-tests-answered said g b PaymentReference x = tt
-tests-answered said g b Description x = tt
-tests-answered said g b NameBeneficiary x = tt
-tests-answered said g b CityBeneficiary x = tt
-tests-answered said g b BatchTrailer x = tt
-tests-answered said g b FileTrailer x = tt
+tests-answered : (p : Before) (b : Batch) (k : Kind) (x : Fields k) → T (allAnswered (layout k) (testsFor p b k x))
+tests-answered p b FileHeader x = tt
+tests-answered p b BatchHeaderB x = header-answered (knownGroup p) (p .sequence) x
+tests-answered p b BatchHeaderC x = header-answered (knownGroup p) (p .sequence) (unidentified x)
+tests-answered p b FixedDescription x = tt
+tests-answered p b OrderingParty x = tt
+tests-answered p b Transaction x = tt
+tests-answered p b NamePayer x = tt
+tests-answered p b CityPayer x = tt
+tests-answered p b PaymentReference x = tt
+tests-answered p b Description x = tt
+tests-answered p b NameBeneficiary x = tt
+tests-answered p b CityBeneficiary x = tt
+tests-answered p b BatchTrailer x = tt
+tests-answered p b FileTrailer x = tt
 
 maxima-answered : (b : Batch) (k : Kind) (x : Fields k) → T (checksAnswered (maximaFor b k x))
 maxima-answered b FileHeader x = tt
@@ -144,11 +148,11 @@ module _ (after : State) where
   same-checks (check false n c ∷ cs) z = refuses cs (checkRows cs) n c (and-l (leb 1 n) (checksAnswered cs) z)
 
   -- A LINE OF A KIND: its first fault is the first check that fails
-  pub same-faults : (said : Bool) (g : Group) (b : Batch) (k : Kind) (line : List ℕ)
-      → Same (lineChecks 6 (layout k) (testsFor said g b k (fieldsOf k line)) (partAt 6 (widths (layout k)) line) (maximaFor b k (fieldsOf k line))) (faultOf said g b k line)
+  pub same-faults : (p : Before) (b : Batch) (k : Kind) (line : List ℕ)
+      → Same (lineChecks 6 (layout k) (testsFor p b k (fieldsOf k line)) (partAt 6 (widths (layout k)) line) (maximaFor b k (fieldsOf k line))) (faultOf p b k line)
   unfolding faultOf firstFault
-  same-faults said g b k line =
-      same-fields 6 (layout k) (testsFor said g b k (fieldsOf k line)) line (maximaFor b k (fieldsOf k line)) (checkRows (maximaFor b k (fieldsOf k line))) (omega arith) (tests-answered said g b k (fieldsOf k line))
+  same-faults p b k line =
+      same-fields 6 (layout k) (testsFor p b k (fieldsOf k line)) line (maximaFor b k (fieldsOf k line)) (checkRows (maximaFor b k (fieldsOf k line))) (omega arith) (tests-answered p b k (fieldsOf k line))
       (same-checks (maximaFor b k (fieldsOf k line)) (maxima-answered b k (fieldsOf k line)))
 
 -- ## A line without a fault passes the tests of its fields
@@ -157,9 +161,15 @@ all-hold : (c : ℕ) (fs : List Field) (t : Tests fs) (l : List ℕ) (cs : List 
 all-hold c [] t l cs p = tt
 all-hold c (f ∷ fs) t l cs p = let r = field-passed c (t .0) (lineChecks (c + width f) fs (t .1) (drop (width f) l) cs) (p .1) in (r .0, all-hold (c + width f) fs (t .1) (drop (width f) l) cs (r .1))
 
-pub faultless : (said : Bool) (g : Group) (b : Batch) (k : Kind) (line : List ℕ) → faultOf said g b k line .number ≡ 0 → Holds (layout k) (testsFor said g b k (fieldsOf k line))
-faultless said g b k line e = by (same-faults begin said g b k line) e
+pub faultless : (p : Before) (b : Batch) (k : Kind) (line : List ℕ) → faultOf p b k line .number ≡ 0 → Holds (layout k) (testsFor p b k (fieldsOf k line))
+faultless p b k line e = by (same-faults begin p b k line) e
   where
-    by : {f : Fault} → Same begin (lineChecks 6 (layout k) (testsFor said g b k (fieldsOf k line)) (partAt 6 (widths (layout k)) line) (maximaFor b k (fieldsOf k line))) f → f .number ≡ 0 → Holds (layout k) (testsFor said g b k (fieldsOf k line))
-    by (passed p) e = all-hold 6 (layout k) (testsFor said g b k (fieldsOf k line)) (partAt 6 (widths (layout k)) line) (maximaFor b k (fieldsOf k line)) p
+    by : {f : Fault} → Same begin (lineChecks 6 (layout k) (testsFor p b k (fieldsOf k line)) (partAt 6 (widths (layout k)) line) (maximaFor b k (fieldsOf k line))) f → f .number ≡ 0 → Holds (layout k) (testsFor p b k (fieldsOf k line))
+    by (passed h) e = all-hold 6 (layout k) (testsFor p b k (fieldsOf k line)) (partAt 6 (widths (layout k)) line) (maximaFor b k (fieldsOf k line)) h
     by (stopped c n z q) e = absurd (omega arith)
+
+-- a trailer that is accepted says what the batch has
+pub trailer-says : (p : Before) (b : Batch) (line : List ℕ) → faultOf p b BatchTrailer line .number ≡ 0 → recordFor BatchTrailer (fieldsOf BatchTrailer line) ≡ the.BatchTrailer (b .total) (b .accounts) (b .items)
+trailer-says p b line e =
+    let h = faultless p b BatchTrailer line e in
+    rw (eqb→eq _ (b .total) (h .0 .1 .0), eqb→eq _ (b .accounts) (h .1 .0 .0), eqb→eq _ (b .items) (h .1 .1 .0 .1 .0))

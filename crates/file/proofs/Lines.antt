@@ -28,8 +28,9 @@ use Rattle.format.proofs.Reader as the
 use Rattle.format.proofs.Link.{find-code, not-ended, line-widths, step-in, step-out, kindOf-code}
 use Rattle.field.specs.Rows.{partAt}
 use Rattle.record.specs.Kinds.{codeOf}
-use Rattle.record.specs.Faults.{fieldsOf, testsFor, maximaFor, faultOf}
+use Rattle.record.specs.Faults.{knownGroup, fieldsOf, testsFor, maximaFor, faultOf}
 use Rattle.record.specs.Read.{transactionFor}
+use Rattle.record.specs.declared.Before.{Before}
 use Rattle.record.specs.declared.Batch.{Batch}
 use Rattle.record.specs.declared.Fault.{Fault}
 use Rattle.record.proofs.Faulting.{fault-numbers}
@@ -82,63 +83,67 @@ opens-item Payments false = refl
 opens-item Debits true = refl
 opens-item Debits false = refl
 
-adds-item : (b : Batch) (x : Fields Transaction) → addItem (contextOf b) (amount x) (payer x) (beneficiary x) ≡ contextOf (paidBatch b (transactionFor x))
-adds-item b x =
+adds-item : (p : Before) (b : Batch) (x : Fields Transaction) → addItem (contextOf p b) (amount x) (payer x) (beneficiary x) ≡ contextOf p (paidBatch b (transactionFor x))
+adds-item p b x =
     let e : suc (b .items) ≡ b .items + 1 = omega arith in
-    λ i. record { account = b .account; before = record { sequence = b .sequence }; total = b .total + amount x; accounts = tenDigits (b .accounts + payer x + beneficiary x); count = e i }
+    λ i. record { account = b .account; before = record { sequence = p .sequence }; total = b .total + amount x; accounts = tenDigits (b .accounts + payer x + beneficiary x); count = e i }
 
-begins-item : (g : Group) (b : Batch) (x : Fields Transaction) → beginItem g (contextOf b) x ≡ at (itemPhase g (nameIf (needsName (transactionFor x .kind))) fresh) (contextOf (paidBatch b (transactionFor x)))
-begins-item g b x = ap₂ at (opens-item g (needsName (typeOf (type x)))) (adds-item b x)
+begins-item : (g : Group) (p : Before) (b : Batch) (x : Fields Transaction) → beginItem g (contextOf p b) x ≡ at (itemPhase g (nameIf (needsName (transactionFor x .kind))) fresh) (contextOf p (paidBatch b (transactionFor x)))
+begins-item g p b x = ap₂ at (opens-item g (needsName (typeOf (type x)))) (adds-item p b x)
 
 -- ## An edge of the reader from a state: the same tests, and the place of the next state
 
-abbrev stateAt : ℕ → Stage → Group → Bool → Batch → Name → Bool → ℕ → State
-stateAt n p g said b m r d = record { line = n; stage = p; group = g; said = said; batch = b; item = record { name = m; reference = r; descriptions = d } }
+abbrev inGroup : Group → Before → Before
+inGroup g a = record { group = g; known = a .known; sequence = a .sequence }
+
+abbrev stateAt : ℕ → Stage → Before → Batch → Name → Bool → ℕ → State
+stateAt n p a b m r d = record { line = n; stage = p; before = a; batch = b; item = record { name = m; reference = r; descriptions = d } }
 
 abbrev Edge : (s : State) {p : Phase} {k : Kind} → Place p k → Fields k → Type 0
 Edge s {k = k} pl x =
-    (tests pl (contextOf (s .batch)) x ≡ testsFor (s .said) (s .group) (s .batch) k x)
-    × (maxima k (contextOf (s .batch)) x ≡ maximaFor (s .batch) k x)
-    × (advance pl (contextOf (s .batch)) x ≡ placeOf (nextFor s k x))
+    (tests pl (contextOf (s .before) (s .batch)) x ≡ testsFor (s .before) (s .batch) k x)
+    × (maxima k (contextOf (s .before) (s .batch)) x ≡ maximaFor (s .batch) k x)
+    × (advance pl (contextOf (s .before) (s .batch)) x ≡ placeOf (nextFor s k x))
 
-module _ (n : ℕ) (said : Bool) (b : Batch) (r : Bool) (d : ℕ) where
-  edge : (p : Stage) (g : Group) (m : Name) (f : ℕ) (q : Room) → 4 - b .fixed ≡ f → roomOf r d ≡ q → {k : Kind} (pl : Place (phaseIn p said g f m q) k) (x : Fields k) → Edge (stateAt n p g said b m r d) pl x
+module _ (n : ℕ) (a : Before) (b : Batch) (r : Bool) (d : ℕ) where
+  edge : (p : Stage) (g : Group) (m : Name) (f : ℕ) (q : Room) → 4 - b .fixed ≡ f → roomOf r d ≡ q → {k : Kind} (pl : Place (phaseIn p (knownGroup (inGroup g a)) g f m q) k) (x : Fields k) → Edge (stateAt n p (inGroup g a) b m r d) pl x
+  unfolding pick
   edge Start g m f q e h file-header x = (refl, refl, refl)
   edge Headed g m f q e h first-batch-b x = (refl, refl, refl)
   edge Headed g m f q e h first-batch-c x = (refl, refl, refl)
-  edge Opened g m (suc f) q e h fixed-description x = let i : f ≡ 4 - (b .fixed + 1) = omega arith in (refl, refl, ap (λ j. at (opened g j) (contextOf b)) i)
+  edge Opened g m (suc f) q e h fixed-description x = let i : f ≡ 4 - (b .fixed + 1) = omega arith in (refl, refl, ap (λ j. at (opened g j) (contextOf a b)) i)
   edge Opened g m f q e h ordering-party x = (refl, refl, refl)
-  edge Ordered g m f q e h first-item x = (refl, refl, begins-item g b x)
-  edge Item Payments Unwanted f fresh e h payment-reference x = (refl, refl, ap (λ i. at (paying false i) (contextOf b)) (room-referred r d h))
-  edge Item Payments Unwanted f fresh e h payment-description x = (refl, refl, ap (λ i. at (paying false i) (contextOf b)) (room-described r d h))
-  edge Item Payments Unwanted f (left (suc j)) e h payment-description-more x = (refl, refl, ap (λ i. at (paying false i) (contextOf b)) (room-more r d j h))
-  edge Item Payments Unwanted f q e h (next-item unnamed-payment) x = (refl, refl, begins-item Payments b x)
+  edge Ordered g m f q e h first-item x = (refl, refl, begins-item g a b x)
+  edge Item Payments Unwanted f fresh e h payment-reference x = (refl, refl, ap (λ i. at (paying false i) (contextOf a b)) (room-referred r d h))
+  edge Item Payments Unwanted f fresh e h payment-description x = (refl, refl, ap (λ i. at (paying false i) (contextOf a b)) (room-described r d h))
+  edge Item Payments Unwanted f (left (suc j)) e h payment-description-more x = (refl, refl, ap (λ i. at (paying false i) (contextOf a b)) (room-more r d j h))
+  edge Item Payments Unwanted f q e h (next-item unnamed-payment) x = (refl, refl, begins-item Payments a b x)
   edge Item Payments Unwanted f q e h (batch-trailer unnamed-payment) x = (refl, refl, refl)
-  edge Item Payments Due f fresh e h payment-reference x = (refl, refl, ap (λ i. at (paying true i) (contextOf b)) (room-referred r d h))
-  edge Item Payments Due f fresh e h payment-description x = (refl, refl, ap (λ i. at (paying true i) (contextOf b)) (room-described r d h))
-  edge Item Payments Due f (left (suc j)) e h payment-description-more x = (refl, refl, ap (λ i. at (paying true i) (contextOf b)) (room-more r d j h))
+  edge Item Payments Due f fresh e h payment-reference x = (refl, refl, ap (λ i. at (paying true i) (contextOf a b)) (room-referred r d h))
+  edge Item Payments Due f fresh e h payment-description x = (refl, refl, ap (λ i. at (paying true i) (contextOf a b)) (room-described r d h))
+  edge Item Payments Due f (left (suc j)) e h payment-description-more x = (refl, refl, ap (λ i. at (paying true i) (contextOf a b)) (room-more r d j h))
   edge Item Payments Due f q e h beneficiary-name x = (refl, refl, refl)
   edge Item Payments Read f q e h beneficiary-city x = (refl, refl, refl)
-  edge Item Payments Read f q e h (next-item named-payment) x = (refl, refl, begins-item Payments b x)
+  edge Item Payments Read f q e h (next-item named-payment) x = (refl, refl, begins-item Payments a b x)
   edge Item Payments Read f q e h (batch-trailer named-payment) x = (refl, refl, refl)
-  edge Item Payments Past f q e h (next-item named-payment) x = (refl, refl, begins-item Payments b x)
+  edge Item Payments Past f q e h (next-item named-payment) x = (refl, refl, begins-item Payments a b x)
   edge Item Payments Past f q e h (batch-trailer named-payment) x = (refl, refl, refl)
-  edge Item Debits Unwanted f fresh e h debit-reference x = (refl, refl, ap (λ i. at (owed false i) (contextOf b)) (room-referred r d h))
-  edge Item Debits Unwanted f fresh e h debit-description x = (refl, refl, ap (λ i. at (owed false i) (contextOf b)) (room-described r d h))
-  edge Item Debits Unwanted f (left (suc j)) e h debit-description-more x = (refl, refl, ap (λ i. at (owed false i) (contextOf b)) (room-more r d j h))
-  edge Item Debits Unwanted f q e h (next-item open-debit) x = (refl, refl, begins-item Debits b x)
+  edge Item Debits Unwanted f fresh e h debit-reference x = (refl, refl, ap (λ i. at (owed false i) (contextOf a b)) (room-referred r d h))
+  edge Item Debits Unwanted f fresh e h debit-description x = (refl, refl, ap (λ i. at (owed false i) (contextOf a b)) (room-described r d h))
+  edge Item Debits Unwanted f (left (suc j)) e h debit-description-more x = (refl, refl, ap (λ i. at (owed false i) (contextOf a b)) (room-more r d j h))
+  edge Item Debits Unwanted f q e h (next-item open-debit) x = (refl, refl, begins-item Debits a b x)
   edge Item Debits Unwanted f q e h (batch-trailer open-debit) x = (refl, refl, refl)
-  edge Item Debits Due f q e h payer-name x = (refl, refl, ap (λ i. at (owed true i) (contextOf b)) (sym h))
-  edge Item Debits Read f q e h payer-city x = (refl, refl, ap (λ i. at (owed false i) (contextOf b)) (sym h))
-  edge Item Debits Read f fresh e h debit-reference x = (refl, refl, ap (λ i. at (owed false i) (contextOf b)) (room-referred r d h))
-  edge Item Debits Read f fresh e h debit-description x = (refl, refl, ap (λ i. at (owed false i) (contextOf b)) (room-described r d h))
-  edge Item Debits Read f (left (suc j)) e h debit-description-more x = (refl, refl, ap (λ i. at (owed false i) (contextOf b)) (room-more r d j h))
-  edge Item Debits Read f q e h (next-item open-debit) x = (refl, refl, begins-item Debits b x)
+  edge Item Debits Due f q e h payer-name x = (refl, refl, ap (λ i. at (owed true i) (contextOf a b)) (sym h))
+  edge Item Debits Read f q e h payer-city x = (refl, refl, ap (λ i. at (owed false i) (contextOf a b)) (sym h))
+  edge Item Debits Read f fresh e h debit-reference x = (refl, refl, ap (λ i. at (owed false i) (contextOf a b)) (room-referred r d h))
+  edge Item Debits Read f fresh e h debit-description x = (refl, refl, ap (λ i. at (owed false i) (contextOf a b)) (room-described r d h))
+  edge Item Debits Read f (left (suc j)) e h debit-description-more x = (refl, refl, ap (λ i. at (owed false i) (contextOf a b)) (room-more r d j h))
+  edge Item Debits Read f q e h (next-item open-debit) x = (refl, refl, begins-item Debits a b x)
   edge Item Debits Read f q e h (batch-trailer open-debit) x = (refl, refl, refl)
-  edge Item Debits Past f fresh e h debit-reference x = (refl, refl, ap (λ i. at (owed false i) (contextOf b)) (room-referred r d h))
-  edge Item Debits Past f fresh e h debit-description x = (refl, refl, ap (λ i. at (owed false i) (contextOf b)) (room-described r d h))
-  edge Item Debits Past f (left (suc j)) e h debit-description-more x = (refl, refl, ap (λ i. at (owed false i) (contextOf b)) (room-more r d j h))
-  edge Item Debits Past f q e h (next-item open-debit) x = (refl, refl, begins-item Debits b x)
+  edge Item Debits Past f fresh e h debit-reference x = (refl, refl, ap (λ i. at (owed false i) (contextOf a b)) (room-referred r d h))
+  edge Item Debits Past f fresh e h debit-description x = (refl, refl, ap (λ i. at (owed false i) (contextOf a b)) (room-described r d h))
+  edge Item Debits Past f (left (suc j)) e h debit-description-more x = (refl, refl, ap (λ i. at (owed false i) (contextOf a b)) (room-more r d j h))
+  edge Item Debits Past f q e h (next-item open-debit) x = (refl, refl, begins-item Debits a b x)
   edge Item Debits Past f q e h (batch-trailer open-debit) x = (refl, refl, refl)
   edge Closed g m f q e h next-batch-b x = (refl, refl, refl)
   edge Closed g m f q e h next-batch-c x = (refl, refl, refl)
@@ -146,7 +151,7 @@ module _ (n : ℕ) (said : Bool) (b : Batch) (r : Bool) (d : ℕ) where
   edge Done g m f q e h pl x = absurd (not-ended pl)
 
 edge-of : (s : State) {k : Kind} (pl : Place (phaseOf s) k) (x : Fields k) → Edge s pl x
-edge-of s pl x = edge (s .line) (s .said) (s .batch) (s .item .reference) (s .item .descriptions) (s .stage) (s .group) (s .item .name) (4 - s .batch .fixed) (roomOf (s .item .reference) (s .item .descriptions)) refl refl pl x
+edge-of s pl x = edge (s .line) (s .before) (s .batch) (s .item .reference) (s .item .descriptions) (s .stage) (s .before .group) (s .item .name) (4 - s .batch .fixed) (roomOf (s .item .reference) (s .item .descriptions)) refl refl pl x
 
 -- ## What is judged of a line, and what the reader does with it
 
@@ -162,7 +167,7 @@ module _ (s : State) (line : List ℕ) (k : Kind) (e : take 5 line ≡ code k) w
   body = partAt 6 (widths (layout k)) line
 
   faults : List Check
-  faults = lineChecks 6 (layout k) (testsFor (s .said) (s .group) (s .batch) k x) body (maximaFor (s .batch) k x)
+  faults = lineChecks 6 (layout k) (testsFor (s .before) (s .batch) k x) body (maximaFor (s .batch) k x)
 
   -- a record that may stand here
   stepped : Place (phaseOf s) k → step (placeOf s) line ≡ judge faults (placeOf (nextFor s k x))
@@ -170,7 +175,7 @@ module _ (s : State) (line : List ℕ) (k : Kind) (e : take 5 line ≡ code k) w
   stepped pl =
       let w = edge-of s pl x in
       let l : take 45 (drop 5 line) ≡ body = ap (λ n. take n (drop 5 line)) (sym (line-widths k .1)) in
-      let ctx = contextOf (s .batch) in
+      let ctx = contextOf (s .before) (s .batch) in
       step-in pl ctx line e
       ∙ ap (λ l. judge (lineChecks 6 (layout k) (tests pl ctx (readFields (layout k) l)) l (maxima k ctx (readFields (layout k) l))) (advance pl ctx (readFields (layout k) l))) l
       ∙ ap (λ y. judge (lineChecks 6 (layout k) (tests pl ctx y) body (maxima k ctx y)) (advance pl ctx y)) (fields-read 6 (layout k) line (omega arith))
@@ -185,10 +190,10 @@ module _ (s : State) (line : List ℕ) (k : Kind) (e : take 5 line ≡ code k) w
 
   by-place : (q : Bool) → allowed s k ≡ q → Agrees s line (pick q (judgedAs s k line) (refused s 1 3))
   unfolding pick judgedAs x body faults
-  by-place true a = by-fault (its-place s k a) (faultOf (s .said) (s .group) (s .batch) k line) (fault-numbers (s .said) (s .group) (s .batch) k line) (same-faults (placeOf (nextFor s k x)) (s .said) (s .group) (s .batch) k line)
+  by-place true a = by-fault (its-place s k a) (faultOf (s .before) (s .batch) k line) (fault-numbers (s .before) (s .batch) k line) (same-faults (placeOf (nextFor s k x)) (s .before) (s .batch) k line)
   by-place false a =
       stops 1 3 (omega arith)
-      (step-out (phaseOf s) (contextOf (s .batch)) line (ap (λ c. find c (choices (phaseOf s))) e ∙ no-place s k a) ∙ ap (λ c. the.lost (kindOf c kinds)) e ∙ ap the.lost (kindOf-code k))
+      (step-out (phaseOf s) (contextOf (s .before) (s .batch)) line (ap (λ c. find c (choices (phaseOf s))) e ∙ no-place s k a) ∙ ap (λ c. the.lost (kindOf c kinds)) e ∙ ap the.lost (kindOf-code k))
 
 -- ## The kind of a line
 
@@ -216,4 +221,4 @@ line-agrees s line = by (codeOf (take 5 line)) refl
     by (Of k) e = by-place s line k (code-is (take 5 line) k e) (allowed s k) refl
     by Unknown e =
         let n = no-code (take 5 line) e in
-        stops 1 2 (omega arith) (step-out (phaseOf s) (contextOf (s .batch)) line (no-choice (take 5 line) (choices (phaseOf s)) n) ∙ ap the.lost (no-kind (take 5 line) kinds n))
+        stops 1 2 (omega arith) (step-out (phaseOf s) (contextOf (s .before) (s .batch)) line (no-choice (take 5 line) (choices (phaseOf s)) n) ∙ ap the.lost (no-kind (take 5 line) kinds n))

@@ -20,7 +20,8 @@ use Rattle.format.proofs.Every.{kinds, every}
 use Rattle.format.proofs.Reader.{Room, fresh, left, Phase, start, headed, opened, ordered, paying, paid, owing, owed, closed, done, Context, at, Place, Choice, choices, kindOf, find}
 use Rattle.format.proofs.Reader as the
 use Rattle.format.proofs.Link.{find-code, kindOf-code}
-use Rattle.record.specs.Faults.{groupSaid}
+use Rattle.record.specs.Faults.{knownGroup}
+use Rattle.record.specs.declared.Before.{Before}
 use Rattle.record.specs.declared.Batch.{Batch}
 use Rattle.reading.specs.declared.Stage.{Stage}
 use Rattle.reading.specs.declared.Stage.the-variants.{Start, Headed, Opened, Ordered, Item, Closed, Done}
@@ -46,24 +47,24 @@ itemPhase Debits Due r = owing r
 itemPhase Debits Read r = owed true r
 itemPhase Debits Past r = owed false r
 
--- f: the fixed descriptions that there may still be
-abbrev pub phaseIn : Stage → Bool → Group → ℕ → Name → Room → Phase
-phaseIn Start said g f n r = start (groupSaid said g)
-phaseIn Headed said g f n r = headed (groupSaid said g)
-phaseIn Opened said g f n r = opened g f
-phaseIn Ordered said g f n r = ordered g
-phaseIn Item said g f n r = itemPhase g n r
-phaseIn Closed said g f n r = closed (groupSaid said g)
-phaseIn Done said g f n r = done
+-- o: the group where it is known; f: the fixed descriptions that there may still be
+abbrev pub phaseIn : Stage → Option Group → Group → ℕ → Name → Room → Phase
+phaseIn Start o g f n r = start o
+phaseIn Headed o g f n r = headed o
+phaseIn Opened o g f n r = opened g f
+phaseIn Ordered o g f n r = ordered g
+phaseIn Item o g f n r = itemPhase g n r
+phaseIn Closed o g f n r = closed o
+phaseIn Done o g f n r = done
 
 abbrev pub phaseOf : State → Phase
-phaseOf s = phaseIn (s .stage) (s .said) (s .group) (4 - s .batch .fixed) (s .item .name) (roomOf (s .item .reference) (s .item .descriptions))
+phaseOf s = phaseIn (s .stage) (knownGroup (s .before)) (s .before .group) (4 - s .batch .fixed) (s .item .name) (roomOf (s .item .reference) (s .item .descriptions))
 
-abbrev pub contextOf : Batch → Context
-contextOf b = record { account = b .account; before = record { sequence = b .sequence }; total = b .total; accounts = b .accounts; count = b .items }
+abbrev pub contextOf : Before → Batch → Context
+contextOf p b = record { account = b .account; before = record { sequence = p .sequence }; total = b .total; accounts = b .accounts; count = b .items }
 
 abbrev pub placeOf : State → the.State
-placeOf s = at (phaseOf s) (contextOf (s .batch))
+placeOf s = at (phaseOf s) (contextOf (s .before) (s .batch))
 
 -- ## Room for texts, and what is left of it
 
@@ -113,7 +114,7 @@ mayFollow p g n fixed reference description FileTrailer = isStage p Closed
 
 abbrev following : State → Kind → Bool
 following s k =
-    mayFollow (s .stage) (s .group) (s .item .name) (someLeft (4 - s .batch .fixed)) (refers (roomOf (s .item .reference) (s .item .descriptions))) (describes (roomOf (s .item .reference) (s .item .descriptions))) k
+    mayFollow (s .stage) (s .before .group) (s .item .name) (someLeft (4 - s .batch .fixed)) (refers (roomOf (s .item .reference) (s .item .descriptions))) (describes (roomOf (s .item .reference) (s .item .descriptions))) k
 
 allowed-follows : (s : State) (k : Kind) → allowed s k ≡ following s k
 unfolding allowed mayFollow mayFix mayRefer mayDescribe
@@ -125,8 +126,8 @@ allowed-follows s OrderingParty = refl
 allowed-follows s Transaction = refl
 allowed-follows s NamePayer = refl
 allowed-follows s CityPayer = refl
-allowed-follows s PaymentReference = ap (λ q. mayText (s .stage) (s .group) (s .item .name) && q) (refers-in (s .item .reference) (s .item .descriptions))
-allowed-follows s Description = ap (λ q. mayText (s .stage) (s .group) (s .item .name) && q) (describes-in (s .item .reference) (s .item .descriptions))
+allowed-follows s PaymentReference = ap (λ q. mayText (s .stage) (s .before .group) (s .item .name) && q) (refers-in (s .item .reference) (s .item .descriptions))
+allowed-follows s Description = ap (λ q. mayText (s .stage) (s .before .group) (s .item .name) && q) (describes-in (s .item .reference) (s .item .descriptions))
 allowed-follows s NameBeneficiary = refl
 allowed-follows s CityBeneficiary = refl
 allowed-follows s BatchTrailer = refl
@@ -161,40 +162,40 @@ on-each f g (k ∷ ks) t = (same-truth (f k) (g k) (and-l (sameTruth (f k) (g k)
 on-every : (f g : Kind → Bool) → OnEach f g kinds → (k : Kind) → f k ≡ g k
 on-every f g h = every (λ k. f k ≡ g k) (h .0) (h .1 .0) (h .1 .1 .0) (h .1 .1 .1 .0) (h .1 .1 .1 .1 .0) (h .1 .1 .1 .1 .1 .0) (h .1 .1 .1 .1 .1 .1 .0) (h .1 .1 .1 .1 .1 .1 .1 .0) (h .1 .1 .1 .1 .1 .1 .1 .1 .0) (h .1 .1 .1 .1 .1 .1 .1 .1 .1 .0) (h .1 .1 .1 .1 .1 .1 .1 .1 .1 .1 .0) (h .1 .1 .1 .1 .1 .1 .1 .1 .1 .1 .1 .0) (h .1 .1 .1 .1 .1 .1 .1 .1 .1 .1 .1 .1 .0) (h .1 .1 .1 .1 .1 .1 .1 .1 .1 .1 .1 .1 .1 .0)
 
-same-order : (p : Stage) (said : Bool) (g : Group) (f : ℕ) (n : Name) (r : Room) → T (agreeOn (mayFollow p g n (someLeft f) (refers r) (describes r)) (hasPlace (phaseIn p said g f n r)) kinds)
+same-order : (p : Stage) (o : Option Group) (g : Group) (f : ℕ) (n : Name) (r : Room) → T (agreeOn (mayFollow p g n (someLeft f) (refers r) (describes r)) (hasPlace (phaseIn p o g f n r)) kinds)
 unfolding mayFollow hasPlace same mayOpen mayEnd mayPay mayName textsBy mayText
-same-order Start said g f n r = tt
-same-order Headed said g f n r = tt
-same-order Opened said g zero n r = tt
-same-order Opened said g (suc f) n r = tt
-same-order Ordered said g f n r = tt
-same-order Item said Payments f Unwanted fresh = tt
-same-order Item said Payments f Unwanted (left zero) = tt
-same-order Item said Payments f Unwanted (left (suc m)) = tt
-same-order Item said Payments f Due fresh = tt
-same-order Item said Payments f Due (left zero) = tt
-same-order Item said Payments f Due (left (suc m)) = tt
-same-order Item said Payments f Read r = tt
-same-order Item said Payments f Past r = tt
-same-order Item said Debits f Unwanted fresh = tt
-same-order Item said Debits f Unwanted (left zero) = tt
-same-order Item said Debits f Unwanted (left (suc m)) = tt
-same-order Item said Debits f Due r = tt
-same-order Item said Debits f Read fresh = tt
-same-order Item said Debits f Read (left zero) = tt
-same-order Item said Debits f Read (left (suc m)) = tt
-same-order Item said Debits f Past fresh = tt
-same-order Item said Debits f Past (left zero) = tt
-same-order Item said Debits f Past (left (suc m)) = tt
-same-order Closed said g f n r = tt
-same-order Done said g f n r = tt
+same-order Start o g f n r = tt
+same-order Headed o g f n r = tt
+same-order Opened o g zero n r = tt
+same-order Opened o g (suc f) n r = tt
+same-order Ordered o g f n r = tt
+same-order Item o Payments f Unwanted fresh = tt
+same-order Item o Payments f Unwanted (left zero) = tt
+same-order Item o Payments f Unwanted (left (suc m)) = tt
+same-order Item o Payments f Due fresh = tt
+same-order Item o Payments f Due (left zero) = tt
+same-order Item o Payments f Due (left (suc m)) = tt
+same-order Item o Payments f Read r = tt
+same-order Item o Payments f Past r = tt
+same-order Item o Debits f Unwanted fresh = tt
+same-order Item o Debits f Unwanted (left zero) = tt
+same-order Item o Debits f Unwanted (left (suc m)) = tt
+same-order Item o Debits f Due r = tt
+same-order Item o Debits f Read fresh = tt
+same-order Item o Debits f Read (left zero) = tt
+same-order Item o Debits f Read (left (suc m)) = tt
+same-order Item o Debits f Past fresh = tt
+same-order Item o Debits f Past (left zero) = tt
+same-order Item o Debits f Past (left (suc m)) = tt
+same-order Closed o g f n r = tt
+same-order Done o g f n r = tt
 
 -- a record is allowed exactly where it has a place
 allowed-place : (s : State) (k : Kind) → allowed s k ≡ isSome (find (code k) (choices (phaseOf s)))
 unfolding hasPlace
 allowed-place s k =
     let room = roomOf (s .item .reference) (s .item .descriptions) in
-    allowed-follows s k ∙ on-every (following s) (hasPlace (phaseOf s)) (on-each (following s) (hasPlace (phaseOf s)) kinds (same-order (s .stage) (s .said) (s .group) (4 - s .batch .fixed) (s .item .name) room)) k
+    allowed-follows s k ∙ on-every (following s) (hasPlace (phaseOf s)) (on-each (following s) (hasPlace (phaseOf s)) kinds (same-order (s .stage) (knownGroup (s .before)) (s .before .group) (4 - s .batch .fixed) (s .item .name) room)) k
 
 one-kind : (k m : Kind) → code k ≡ code m → k ≡ m
 one-kind k m e = let q : _≡_ {A = Option Kind} (some k) (some m) = sym (kindOf-code k) ∙ ap (λ c. kindOf c kinds) e ∙ kindOf-code m in cc

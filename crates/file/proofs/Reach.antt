@@ -21,7 +21,7 @@ use Rattle.record.specs.Faults.{fieldsOf, faultOf}
 use Rattle.record.specs.Read.{transactionFor}
 use Rattle.record.specs.declared.Batch.{Batch}
 use Rattle.record.specs.declared.TransactionFields.{TransactionFields}
-use Rattle.reading.specs.State.{startState, within, Kept}
+use Rattle.reading.specs.State.{startState, within, Limited}
 use Rattle.reading.specs.Order.{stageNumber, isStage, isName, mayOpen, mayFix, mayEnd, mayPay, mayName, textsBy, mayText, mayRefer, mayDescribe, allowed}
 use Rattle.reading.specs.Step.{opened, withFixed, paid, named, texted, nextFor, nameIf, afterText, judgedFirst}
 use Rattle.reading.specs.declared.Stage.{Stage}
@@ -32,7 +32,7 @@ use Rattle.reading.specs.declared.State.{State}
 use Rattle.reading.specs.declared.Judged.{Judged}
 use Rattle.reading.proofs.Limits.{within-yes}
 use Rattle.reading.proofs.Verdicts.{First, beyond, halted, moved, first}
-use Rattle.reading.proofs.Judgements.{kept-after}
+use Rattle.reading.proofs.Judgements.{limited-after}
 use Rattle.file.proofs.Faults.{faultless}
 
 -- a name and its city
@@ -47,20 +47,20 @@ referenceLines true = 1
 referenceLines false = 0
 
 -- a batch has at most 700,007 lines: header, four fixed descriptions, ordering party, trailer, and seven for each of 100,000 items
-abbrev Lines : Stage → ℕ → Batch → Name → Bool → ℕ → Type 0
-Lines Start n b m r d = (n ≡ 0) × (b .sequence ≡ 0)
-Lines Headed n b m r d = (n ≡ 1) × (b .sequence ≡ 0)
-Lines Opened n b m r d = (n + 700007 ≤ 700007 * b .sequence + 2 + b .fixed) × (1 ≤ b .sequence) × (b .items ≡ 0)
-Lines Ordered n b m r d = (n + 700007 ≤ 700007 * b .sequence + 7) × (1 ≤ b .sequence) × (b .items ≡ 0)
-Lines Item n b m r d = (n + 700007 ≤ 700007 * b .sequence + 7 * b .items + 1 + referenceLines r + d + nameLines m) × (1 ≤ b .sequence) × (referenceLines r + d ≤ 4)
-Lines Closed n b m r d = (n ≤ 700007 * b .sequence + 1) × (1 ≤ b .sequence)
-Lines Done n b m r d = n ≤ 700007 * b .sequence + 2
+abbrev Lines : Stage → ℕ → ℕ → Batch → Name → Bool → ℕ → Type 0
+Lines Start n q b m r d = (n ≡ 0) × (q ≡ 0)
+Lines Headed n q b m r d = (n ≡ 1) × (q ≡ 0)
+Lines Opened n q b m r d = (n + 700007 ≤ 700007 * q + 2 + b .fixed) × (1 ≤ q) × (b .items ≡ 0)
+Lines Ordered n q b m r d = (n + 700007 ≤ 700007 * q + 7) × (1 ≤ q) × (b .items ≡ 0)
+Lines Item n q b m r d = (n + 700007 ≤ 700007 * q + 7 * b .items + 1 + referenceLines r + d + nameLines m) × (1 ≤ q) × (referenceLines r + d ≤ 4)
+Lines Closed n q b m r d = (n ≤ 700007 * q + 1) × (1 ≤ q)
+Lines Done n q b m r d = n ≤ 700007 * q + 2
 
 abbrev LinesAt : Stage → State → Type 0
-LinesAt p s = Lines p (s .line) (s .batch) (s .item .name) (s .item .reference) (s .item .descriptions)
+LinesAt p s = Lines p (s .line) (s .before .sequence) (s .batch) (s .item .name) (s .item .reference) (s .item .descriptions)
 
 abbrev pub Reach : State → Type 0
-Reach s = Kept s × LinesAt (s .stage) s
+Reach s = Limited s × LinesAt (s .stage) s
 
 pub reach-start : Reach startState
 reach-start = (record { items = zero-le; total = zero-le; accounts = zero-le; sequence = zero-le; fixed = zero-le; descriptions = zero-le }, (refl, refl))
@@ -71,7 +71,7 @@ few-names Due = omega arith
 few-names Read = omega arith
 few-names Past = omega arith
 
-few-lines : (p : Stage) (s : State) → Kept s → LinesAt p s → s .line ≤ 6999369995
+few-lines : (p : Stage) (s : State) → Limited s → LinesAt p s → s .line ≤ 6999369995
 few-lines Start s k h = omega arith
 few-lines Headed s k h = omega arith
 few-lines Opened s k h = omega (arith, k .sequence, k .fixed)
@@ -145,21 +145,21 @@ following : (before n : ℕ) → 1 ≤ before → Follows before n → n ≡ bef
 following zero n h f = absurd (omega arith)
 following (suc p) n h f = omega (arith, f)
 
-module _ (s : State) (kept : Kept s) (i : LinesAt (s .stage) s) where
+module _ (s : State) (limited : Limited s) (i : LinesAt (s .stage) s) where
   at-stage : (q : Stage) → T (isStage (s .stage) q) → LinesAt q s
   at-stage q t = subst (λ p. LinesAt p s) (is-stage (s .stage) q t) i
 
   as-stage : (q : Stage) (u : State) → T (isStage (s .stage) q) → LinesAt q u → LinesAt (s .stage) u
   as-stage q u t h = subst (λ p. LinesAt p u) (sym (is-stage (s .stage) q t)) h
 
-  opened-lines : (x : Fields BatchHeaderB) → T (mayOpen (s .stage)) → T (inRange 1 maxSequence (sequence x)) → T (isNext (s .batch .sequence) (sequence x)) → LinesAt Opened (opened s x)
+  opened-lines : (x : Fields BatchHeaderB) → T (mayOpen (s .stage)) → T (inRange 1 maxSequence (sequence x)) → T (isNext (s .before .sequence) (sequence x)) → LinesAt Opened (opened s x)
   unfolding mayOpen
   opened-lines x a r t =
       let n = sequence x in
       let h = inRange→In 1 maxSequence n r in
       either (isStage (s .stage) Headed) (isStage (s .stage) Closed) a
       (λ p. let w = at-stage Headed p in omega arith)
-      (λ p. let w = at-stage Closed p in omega (arith, following (s .batch .sequence) n (w .1) (isNext→Follows (s .batch .sequence) n t)))
+      (λ p. let w = at-stage Closed p in omega (arith, following (s .before .sequence) n (w .1) (isNext→Follows (s .before .sequence) n t)))
 
   paid-lines : (t : TransactionFields) → T (mayPay (s .stage) (s .item .name)) → LinesAt Item (paid s t)
   unfolding mayPay mayEnd
@@ -173,50 +173,50 @@ module _ (s : State) (kept : Kept s) (i : LinesAt (s .stage) s) where
   named-lines : (g : Bool) (m : Name) → nameLines m ≡ nameLines (s .item .name) + 1 → T (isStage (s .stage) Item && g) → LinesAt (s .stage) (named s m)
   named-lines g m e a = let p = and-l (isStage (s .stage) Item) g a in let w = at-stage Item p in as-stage Item (named s m) p (omega arith)
 
-  due-lines : (g : Group) → T (isStage (s .stage) Item && (sameGroup (s .group) g && isName (s .item .name) Due)) → LinesAt (s .stage) (named s Read)
+  due-lines : (g : Group) → T (isStage (s .stage) Item && (sameGroup (s .before .group) g && isName (s .item .name) Due)) → LinesAt (s .stage) (named s Read)
   due-lines g a =
-      let b = sameGroup (s .group) g && isName (s .item .name) Due in
-      let e = is-due (s .item .name) (and-r (sameGroup (s .group) g) (isName (s .item .name) Due) (and-r (isStage (s .stage) Item) b a)) in
+      let b = sameGroup (s .before .group) g && isName (s .item .name) Due in
+      let e = is-due (s .item .name) (and-r (sameGroup (s .before .group) g) (isName (s .item .name) Due) (and-r (isStage (s .stage) Item) b a)) in
       named-lines b Read (omega arith) a
 
-  read-lines : (g : Group) → T (isStage (s .stage) Item && (sameGroup (s .group) g && isName (s .item .name) Read)) → LinesAt (s .stage) (named s Past)
+  read-lines : (g : Group) → T (isStage (s .stage) Item && (sameGroup (s .before .group) g && isName (s .item .name) Read)) → LinesAt (s .stage) (named s Past)
   read-lines g a =
-      let b = sameGroup (s .group) g && isName (s .item .name) Read in
-      let e = is-read (s .item .name) (and-r (sameGroup (s .group) g) (isName (s .item .name) Read) (and-r (isStage (s .stage) Item) b a)) in
+      let b = sameGroup (s .before .group) g && isName (s .item .name) Read in
+      let e = is-read (s .item .name) (and-r (sameGroup (s .before .group) g) (isName (s .item .name) Read) (and-r (isStage (s .stage) Item) b a)) in
       named-lines b Past (omega arith) a
 
-  texted-lines : (q : Bool) (r : Bool) (d : ℕ) → T ((isStage (s .stage) Item && textsBy (s .group) (s .item .name)) && q)
+  texted-lines : (q : Bool) (r : Bool) (d : ℕ) → T ((isStage (s .stage) Item && textsBy (s .before .group) (s .item .name)) && q)
       → referenceLines r + d ≡ referenceLines (s .item .reference) + s .item .descriptions + 1 → referenceLines r + d ≤ 4 → LinesAt (s .stage) (texted s r d)
   texted-lines q r d a e h =
-      let p = and-l (isStage (s .stage) Item) (textsBy (s .group) (s .item .name)) (and-l (isStage (s .stage) Item && textsBy (s .group) (s .item .name)) q a) in
+      let p = and-l (isStage (s .stage) Item) (textsBy (s .before .group) (s .item .name)) (and-l (isStage (s .stage) Item && textsBy (s .before .group) (s .item .name)) q a) in
       let w = at-stage Item p in
       as-stage Item (texted s r d) p (omega (arith, after-text (s .item .name)))
 
-  lines-next : (k : Kind) (line : List ℕ) → T (allowed s k) → faultOf (s .said) (s .group) (s .batch) k line .number ≡ 0 → LinesAt (nextFor s k (fieldsOf k line) .stage) (nextFor s k (fieldsOf k line))
+  lines-next : (k : Kind) (line : List ℕ) → T (allowed s k) → faultOf (s .before) (s .batch) k line .number ≡ 0 → LinesAt (nextFor s k (fieldsOf k line) .stage) (nextFor s k (fieldsOf k line))
   unfolding allowed mayFix mayName mayRefer mayDescribe mayText mayEnd
   lines-next FileHeader line a f = let w = at-stage Start a in omega arith
-  lines-next BatchHeaderB line a f = let h = faultless (s .said) (s .group) (s .batch) BatchHeaderB line f .1 .1 .0 in opened-lines (fieldsOf BatchHeaderB line) a (h .0) (h .1 .0)
-  lines-next BatchHeaderC line a f = let h = faultless (s .said) (s .group) (s .batch) BatchHeaderC line f .1 .1 .0 in opened-lines (unidentified (fieldsOf BatchHeaderC line)) a (h .0) (h .1 .0)
+  lines-next BatchHeaderB line a f = let h = faultless (s .before) (s .batch) BatchHeaderB line f .1 .1 .0 in opened-lines (fieldsOf BatchHeaderB line) a (h .0) (h .1 .0)
+  lines-next BatchHeaderC line a f = let h = faultless (s .before) (s .batch) BatchHeaderC line f .1 .1 .0 in opened-lines (unidentified (fieldsOf BatchHeaderC line)) a (h .0) (h .1 .0)
   lines-next FixedDescription line a f =
       let p = and-l (isStage (s .stage) Opened) (ltb (s .batch .fixed) 4) a in
       let w = at-stage Opened p in
       as-stage Opened (withFixed s) p (omega arith)
-  lines-next OrderingParty line a f = let w = at-stage Opened a in omega (arith, kept .fixed)
+  lines-next OrderingParty line a f = let w = at-stage Opened a in omega (arith, limited .fixed)
   lines-next Transaction line a f = paid-lines (transactionFor (fieldsOf Transaction line)) a
   lines-next NamePayer line a f = due-lines Debits a
   lines-next CityPayer line a f = read-lines Debits a
   lines-next PaymentReference line a f =
-      let e = referred (s .item .reference) (s .item .descriptions) (and-r (mayText (s .stage) (s .group) (s .item .name)) _ a) in
+      let e = referred (s .item .reference) (s .item .descriptions) (and-r (mayText (s .stage) (s .before .group) (s .item .name)) _ a) in
       texted-lines (not (s .item .reference) && eqb (s .item .descriptions) 0) true (s .item .descriptions) a (omega arith) (omega arith)
   lines-next Description line a f =
       let r = s .item .reference in
-      let e = described r (s .item .descriptions) (and-r (mayText (s .stage) (s .group) (s .item .name)) (ltb (s .item .descriptions) (mostDescriptions r)) a) in
+      let e = described r (s .item .descriptions) (and-r (mayText (s .stage) (s .before .group) (s .item .name)) (ltb (s .item .descriptions) (mostDescriptions r)) a) in
       texted-lines (ltb (s .item .descriptions) (mostDescriptions r)) r (s .item .descriptions + 1) a (omega arith) e
   lines-next NameBeneficiary line a f = due-lines Payments a
   lines-next CityBeneficiary line a f = read-lines Payments a
   lines-next BatchTrailer line a f =
       let w = at-stage Item (and-l (isStage (s .stage) Item) (not (isName (s .item .name) Due)) a) in
-      omega (arith, kept .items, few-names (s .item .name))
+      omega (arith, limited .items, few-names (s .item .name))
   lines-next FileTrailer line a f = let w = at-stage Closed a in omega arith
 
 -- ## A run
@@ -227,4 +227,4 @@ reach-first i (halted w c n z) = i .1
 reach-first {s} {xs} i (moved w k c a f) = lines-next s (i .0) (i .1) k (take 50 xs) (of-eq (allowed s k) a) f
 
 pub reach-next : (s : State) (xs : List ℕ) → Reach s → Reach (judgedFirst s xs .next)
-reach-next s xs i = (kept-after s xs refl (i .0), reach-first i (first s xs))
+reach-next s xs i = (limited-after s xs refl (i .0), reach-first i (first s xs))

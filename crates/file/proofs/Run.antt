@@ -3,7 +3,7 @@ use Prim.Native.Nat.{ℕ, zero, suc, _+_, _-_, _≤_, _<_}
 use mathlib.Core.Path.{_≡_, refl, sym, ap, ap₂, _∙_, subst}
 use mathlib.Core.List.{List, [], _∷_}
 use mathlib.Core.Bool.{Bool, true, false, cond, _&&_}
-use mathlib.Core.Option.{none, some}
+use mathlib.Core.Option.{Option, none, some}
 use native.Mathlib.Omega.{arith}
 use borrow.Author.Tests.{eq-eqb, ne-eqb, leb-true}
 use lib.ListN.{length, getD, take, drop, length-drop, drop-of-length-le}
@@ -22,6 +22,7 @@ use Rattle.format.specs.declared.Group.the-variants.{Payments, Debits}
 use Rattle.format.proofs.Reader.{Room, ended, isEnd, step}
 use Rattle.format.proofs.Reader as the
 use Rattle.format.proofs.Theorem.{readFile}
+use Rattle.record.specs.Faults.{knownGroup}
 use Rattle.reading.specs.declared.Stage.{Stage}
 use Rattle.reading.specs.declared.Stage.the-variants.{Start, Headed, Opened, Ordered, Item, Closed, Done}
 use Rattle.reading.specs.declared.Name.{Name}
@@ -29,7 +30,7 @@ use Rattle.reading.specs.declared.Name.the-variants.{Unwanted, Due, Read, Past}
 use Rattle.reading.specs.declared.State.{State}
 use Rattle.reading.specs.declared.Judged.{Judged}
 use Rattle.reading.specs.declared.Answer.{Answer}
-use Rattle.reading.specs.State.{startState, isKept, within}
+use Rattle.reading.specs.State.{startState, isLimited, within}
 use Rattle.reading.specs.Order.{isStage}
 use Rattle.reading.specs.Step.{refused, taken, judgedLine, isWhole, isDone, judgedFirst, endedAt}
 use Rattle.reading.specs.Check.{linesBy, linesOf, answerBy, checkOf, restOf}
@@ -47,24 +48,24 @@ pub data Says : Answer → base.Answer → Type 0 where
 
 -- ## The end of a file
 
-is-end : (p : Stage) (said : Bool) (g : Group) (f : ℕ) (m : Name) (r : Room) → ended (phaseIn p said g f m r) ≡ isStage p Done
-is-end Start said g f m r = refl
-is-end Headed said g f m r = refl
-is-end Opened said g f m r = refl
-is-end Ordered said g f m r = refl
-is-end Item said Payments f Unwanted r = refl
-is-end Item said Payments f Due r = refl
-is-end Item said Payments f Read r = refl
-is-end Item said Payments f Past r = refl
-is-end Item said Debits f Unwanted r = refl
-is-end Item said Debits f Due r = refl
-is-end Item said Debits f Read r = refl
-is-end Item said Debits f Past r = refl
-is-end Closed said g f m r = refl
-is-end Done said g f m r = refl
+is-end : (p : Stage) (o : Option Group) (g : Group) (f : ℕ) (m : Name) (r : Room) → ended (phaseIn p o g f m r) ≡ isStage p Done
+is-end Start o g f m r = refl
+is-end Headed o g f m r = refl
+is-end Opened o g f m r = refl
+is-end Ordered o g f m r = refl
+is-end Item o Payments f Unwanted r = refl
+is-end Item o Payments f Due r = refl
+is-end Item o Payments f Read r = refl
+is-end Item o Payments f Past r = refl
+is-end Item o Debits f Unwanted r = refl
+is-end Item o Debits f Due r = refl
+is-end Item o Debits f Read r = refl
+is-end Item o Debits f Past r = refl
+is-end Closed o g f m r = refl
+is-end Done o g f m r = refl
 
 done-at : (s : State) → isEnd (placeOf s) ≡ isDone s
-done-at s = is-end (s .stage) (s .said) (s .group) (4 - s .batch .fixed) (s .item .name) (roomOf (s .item .reference) (s .item .descriptions))
+done-at s = is-end (s .stage) (knownGroup (s .before)) (s .before .group) (4 - s .batch .fixed) (s .item .name) (roomOf (s .item .reference) (s .item .descriptions))
 
 -- ## A whole line
 
@@ -96,7 +97,7 @@ step-50 : (s : State) (b : List ℕ) → step (placeOf s) (take 52 b) ≡ step (
 step-50 s b =
     let five : take 5 (take 52 b) ≡ take 5 (take 50 b) = take-take 5 52 b (omega arith) ∙ sym (take-take 5 50 b (omega arith)) in
     let rest : take 45 (drop 5 (take 52 b)) ≡ take 45 (drop 5 (take 50 b)) = ap (take 45) (drop-take 5 47 b) ∙ take-take 45 47 (drop 5 b) (omega arith) ∙ sym (ap (take 45) (drop-take 5 45 b) ∙ take-take 45 45 (drop 5 b) (omega arith)) in
-    ap₂ (λ c l. the.found (contextOf (s .batch)) c l (the.find c (the.choices (phaseOf s)))) five rest
+    ap₂ (λ c l. the.found (contextOf (s .before) (s .batch)) c l (the.find c (the.choices (phaseOf s)))) five rest
 
 -- ## Line after line
 
@@ -177,5 +178,5 @@ simulates (suc k) j (x ∷ xs) l z i =
 
 -- THE SAME ANSWER for every list of bytes
 pub same-answer : (b : List ℕ) → Says (checkOf b) (readFile b)
-unfolding checkOf restOf linesOf within isKept pick readFile lines.answer
+unfolding checkOf restOf linesOf within isLimited pick readFile lines.answer
 same-answer b = simulates (suc (length b)) (refused startState 0 0) b (omega arith) refl reach-start

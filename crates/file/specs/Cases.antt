@@ -16,7 +16,8 @@ use Rattle.format.specs.declared.Kind.the-variants.{Transaction}
 use Rattle.format.specs.declared.Group.{Group}
 use Rattle.format.specs.declared.Group.the-variants.{Payments, Debits}
 use Rattle.format.specs.declared.TransactionType.the-variants.{Salary, Debit}
-use Rattle.record.specs.Faults.{faultAt, noFault, faultOf}
+use Rattle.record.specs.Faults.{nothingBefore, afterHeader, faultAt, noFault, faultOf}
+use Rattle.record.specs.declared.Before.{Before}
 use Rattle.record.specs.declared.Batch.{Batch}
 use Rattle.record.specs.declared.Fault.{Fault}
 use Rattle.reading.specs.State.{noItem}
@@ -34,8 +35,8 @@ pub data Case : Type 0 where
   eleven : ℕ → ℕ → Bool → Case
   -- a date, and whether it exists
   date : ℕ → Bool → Case
-  -- a record in a group after a batch so far, and its first fault
-  line : Group → Batch → Rec → Fault → Case
+  -- a record in a batch so far, after what is before it, and its first fault
+  line : Before → Batch → Rec → Fault → Case
   -- the payer and the beneficiary of a batch's one item, their sum, what the batch has of it, and its ten digits in the trailer that is accepted
   accountSum : ℕ → ℕ → ℕ → ℕ → String → Case
   -- whether an item has a reference, the fixed and its own descriptions, and those handed out
@@ -45,9 +46,13 @@ pub data Case : Type 0 where
   -- and the file that they are, which is then the only one
   reading : List ℕ → File → Case
 
--- a batch of the account 123456789: its number, its items so far, their total and account sum
-abbrev batch : ℕ → ℕ → ℕ → ℕ → Batch
-batch sequence items total accounts = record { account = 123456789; sequence = sequence; items = items; total = total; accounts = accounts; fixed = 0 }
+-- after a batch header of a group and a number
+abbrev after : Group → ℕ → Before
+after g sequence = afterHeader nothingBefore g sequence
+
+-- a batch of the account 123456789: its items so far, their total and account sum
+abbrev batch : ℕ → ℕ → ℕ → Batch
+batch items total accounts = record { account = 123456789; items = items; total = total; accounts = accounts; fixed = 0 }
 
 -- an item of it: a payment to 111111110, a debit from an account
 abbrev payment : ℕ → Rec
@@ -83,9 +88,8 @@ ordered account =
     record {
       line = 3;
       stage = Ordered;
-      group = Payments;
-      said = true;
-      batch = record { account = account; sequence = 1; items = 0; total = 0; accounts = 0; fixed = 0 };
+      before = after Payments 1;
+      batch = record { account = account; items = 0; total = 0; accounts = 0; fixed = 0 };
       item = noItem;
     }
 
@@ -95,7 +99,7 @@ paidOne payer beneficiary = stepAt (ordered payer) (lineBytes (cent payer benefi
 abbrev Holds : Case → Type 0
 Holds (eleven account weight passes) = (weighted 10 1 account ≡ weight) × (isEleven account ≡ passes)
 Holds (date day exists) = isDate day ≡ exists
-Holds (line g b r fault) = faultOf true g b (r .0) (lineText r) ≡ fault
+Holds (line p b r fault) = faultOf p b (r .0) (lineText r) ≡ fault
 Holds (accountSum payer beneficiary sum accounts digits) =
     (payer + beneficiary ≡ sum)
     × (paidOne payer beneficiary .answer ≡ accepted)
@@ -121,19 +125,19 @@ accountCases =
     ∷ eleven 123456788 164 false
     ∷ eleven 1000000001 11 true
     ∷ eleven 1000000000 10 false
-    ∷ line Debits (batch 1 0 0 0) (debit 9999999) noFault
+    ∷ line (after Debits 1) (batch 0 0 0) (debit 9999999) noFault
     ∷ eleven 10000003 11 true
-    ∷ line Debits (batch 1 0 0 0) (debit 10000003) (faultAt 22 wrongAccount)
-    ∷ line Debits (batch 1 0 0 0) (debit 0) (faultAt 22 wrongValue)
+    ∷ line (after Debits 1) (batch 0 0 0) (debit 10000003) (faultAt 22 wrongAccount)
+    ∷ line (after Debits 1) (batch 0 0 0) (debit 0) (faultAt 22 wrongValue)
     ∷ []
 
 -- 4, 5
 abbrev pub amountCases : List Case
 amountCases =
-    line Payments (batch 1 0 0 0) (payment 45378021608) noFault
-    ∷ line Payments (batch 1 0 0 0) (payment 45378021609) (faultAt 10 wrongValue)
-    ∷ line Payments (batch 1 100 (100 * maxAmount) 0) (payment 101) noFault
-    ∷ line Payments (batch 1 100 (100 * maxAmount) 0) (payment 102) (faultAt 10 aboveMaximum)
+    line (after Payments 1) (batch 0 0 0) (payment 45378021608) noFault
+    ∷ line (after Payments 1) (batch 0 0 0) (payment 45378021609) (faultAt 10 wrongValue)
+    ∷ line (after Payments 1) (batch 100 (100 * maxAmount) 0) (payment 101) noFault
+    ∷ line (after Payments 1) (batch 100 (100 * maxAmount) 0) (payment 102) (faultAt 10 aboveMaximum)
     ∷ []
 
 -- 6
@@ -163,8 +167,8 @@ descriptionCases =
 -- 11
 abbrev pub sequenceCases : List Case
 sequenceCases =
-    line Payments (batch 9999 0 0 0) (header 1) (faultAt 18 differs)
-    ∷ line Payments (batch 9999 0 0 0) (header 0) (faultAt 18 wrongValue)
+    line (after Payments 9999) (batch 0 0 0) (header 1) (faultAt 18 differs)
+    ∷ line (after Payments 9999) (batch 0 0 0) (header 0) (faultAt 18 wrongValue)
     ∷ []
 
 -- 10, and the example

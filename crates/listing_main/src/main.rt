@@ -8,6 +8,7 @@ use page::put_input;
 use page::put_line;
 use page::put_number;
 use reading::State;
+use record::ClosedBatch;
 use record::Record;
 use record::types::group_text;
 use streams::Lines;
@@ -43,10 +44,8 @@ fn put_group(page: &mut [u8], at: usize, group: Group) -> usize {
     put_line(page, at, b"group=", &group_text(group))
 }
 
-// The batch that a state is in.
-fn put_batch(page: &mut [u8], at: usize, state: State) -> usize {
-    let batch = state.batch;
-    let group = state.group;
+fn put_batch(page: &mut [u8], at: usize, batch: ClosedBatch) -> usize {
+    let group = batch.group;
     let a = put_number(page, at, b"batch=", batch.sequence, 4);
     let b = put_group(page, a, group);
     let c = put_number(page, b, b"account=", batch.account, 10);
@@ -56,18 +55,25 @@ fn put_batch(page: &mut [u8], at: usize, state: State) -> usize {
 }
 
 // What a record that was read adds; state is the one before it.
-fn put_record(page: &mut [u8], at: usize, state: State, read: Record, sender: &[u8]) -> usize {
+fn put_record(page: &mut [u8], at: usize, state: State, read: Record, text: [u8; 35]) -> usize {
     match read {
         Record::FileHeader {
             created,
             identification,
             duplicate,
-        } => put_header(page, at, created, identification, duplicate, sender),
+        } => put_header(
+            page,
+            at,
+            created,
+            identification,
+            duplicate,
+            part(&text, 0, 5),
+        ),
         Record::BatchTrailer {
             total: _,
             accounts: _,
             items: _,
-        } => put_batch(page, at, state),
+        } => put_batch(page, at, state.closing()),
         _ => at,
     }
 }
@@ -99,7 +105,7 @@ fn list_line(before: Listed, rest: &[u8], failed: bool, page: &mut [u8]) -> List
     let read = r.read;
     let text = r.text;
     let next = r.next;
-    listed.at = put_record(page, listed.at, state, read, part(&text, 0, 5));
+    listed.at = put_record(page, listed.at, state, read, text);
     listed.answer = r.answer;
     listed.line = r.line;
     listed.column = r.column;

@@ -74,10 +74,10 @@ unfolding pick
 named-fits n l d f h e = let k : l + 1 ≤ 6999369996 = rw (ne-eqb n 24 h) at f in omega (arith, leb-true d 9 e)
 
 -- what the judging says of a line that is taken, and of one that is refused
-code-fault : {s : State} {xs : List ℕ} {j : Judged} → First s xs j → (k : Kind) → j .code ≡ Of k → faultOf (s .said) (s .group) (s .batch) k (take 50 xs) .number ≡ 0
+code-fault : {s : State} {xs : List ℕ} {j : Judged} → First s xs j → (k : Kind) → j .code ≡ Of k → faultOf (s .before) (s .batch) k (take 50 xs) .number ≡ 0
 code-fault (beyond w) k e = absurd (let z : _≡_ {A = ℕ} 0 1 = cc in omega arith)
 code-fault (halted w c n z) k e = absurd (let z : _≡_ {A = ℕ} 0 1 = cc in omega arith)
-code-fault {s} {xs} (moved w m c a f) k e = let q : m ≡ k = cc in subst (λ i. faultOf (s .said) (s .group) (s .batch) i (take 50 xs) .number ≡ 0) q f
+code-fault {s} {xs} (moved w m c a f) k e = let q : m ≡ k = cc in subst (λ i. faultOf (s .before) (s .batch) i (take 50 xs) .number ≡ 0) q f
 
 refused-line : {s : State} {xs : List ℕ} {j : Judged} → First s xs j → j .code ≡ Unknown → (j .number ≡ 24 → ⊥) → j .next .line ≤ 6999369995
 refused-line {s} (beyond w) e n = absurd (n refl)
@@ -106,7 +106,7 @@ module _ {p : List ℕ} {j : Judged} (s : State) (xs : List ℕ) (h : length xs 
   pub step-taken : {r : Record} {t l : List ℕ} {c : Code} (k : Kind) → c ≡ j .code → c ≡ Of k → l ≡ take 50 xs → r ≡ recordFor k (valuesOf k l) → t ≡ textFor k (valuesOf k l)
       → _≡_ {A = LineRead} (record { answer = j .number; line = j .next .line; column = j .column; next = j .next; read = r; text = t }) (stepAt s xs)
   step-taken {r} {t} k u q v f g =
-      let w = ap (valuesOf k) v ∙ valued (s .said) (s .group) (s .batch) k (take 50 xs) (code-fault by-first k (sym u ∙ q)) in
+      let w = ap (valuesOf k) v ∙ valued (s .before) (s .batch) k (take 50 xs) (code-fault by-first k (sym u ∙ q)) in
       let a : r ≡ recordFor k (fieldsOf k (take 50 xs)) = f ∙ ap (recordFor k) w in
       let b : t ≡ textFor k (fieldsOf k (take 50 xs)) = g ∙ ap (textFor k) w in
       (λ i. record { answer = j .number; line = j .next .line; column = j .column; next = j .next; read = a i; text = b i })

@@ -1,4 +1,4 @@
--- The judging of a line from what calls answered, and what it keeps. Assumes nothing.
+-- The judging of a line from what calls answered, and the limits after it. Assumes nothing.
 use Prim.Native.Nat.{ℕ, _+_, _≤_, _<_, zero-le}
 use mathlib.Core.Path.{_≡_, refl, sym, ap, _∙_, subst}
 use mathlib.Core.List.{List}
@@ -13,18 +13,18 @@ use Rattle.format.specs.Records.{amount}
 use Rattle.format.specs.Rules.{maxFixed, maxDescriptions, mostDescriptions}
 use Rattle.format.specs.declared.Kind.{Kind}
 use Rattle.format.specs.declared.Kind.the-variants.{FileHeader, BatchHeaderB, BatchHeaderC, FixedDescription, OrderingParty, Transaction, NamePayer, CityPayer, PaymentReference, Description, NameBeneficiary, CityBeneficiary, BatchTrailer, FileTrailer}
-use Rattle.format.specs.declared.Group.{Group}
 use Rattle.format.specs.declared.Code.{Code}
 use Rattle.format.specs.declared.Code.the-variants.{Of, Unknown}
 use Rattle.record.specs.Kinds.{codeOf}
 use Rattle.record.specs.Faults.{fieldsOf, maximaFault, faultOf}
 use Rattle.record.specs.Read.{transactionFor, transactionOf, valuesOf}
+use Rattle.record.specs.declared.Before.{Before}
 use Rattle.record.specs.declared.Batch.{Batch}
 use Rattle.record.specs.declared.Fault.{Fault}
 use Rattle.record.specs.declared.TransactionRead.{TransactionRead}
 use Rattle.record.proofs.Reading.{valued}
-use Rattle.record.proofs.Faulting.{transaction-read, transaction-refused, transaction-taken, transaction-bounded, maxima-kept, header-bounded, identified-bounded}
-use Rattle.reading.specs.State.{Kept, within}
+use Rattle.record.proofs.Faulting.{transaction-read, transaction-refused, transaction-taken, transaction-bounded, below-maxima, header-bounded, identified-bounded}
+use Rattle.reading.specs.State.{Limited, within}
 use Rattle.reading.specs.Bounds.{Bounded}
 use Rattle.reading.specs.Order.{isTransaction, isStage, mayFix, mayText, mayDescribe, allowed}
 use Rattle.reading.specs.Step.{nextFor, paid, refused, taken, judgedBy, judgedAs, judgedKind, judgedCode, judgedLine, isWhole, isDone, judgedFirst}
@@ -35,7 +35,7 @@ use Rattle.reading.proofs.Verdicts.{First, beyond, halted, moved, first
 
 -- ## Any kind
 
-module _ {f : Fault} (s : State) (k : Kind) (line : List ℕ) (e : f ≡ faultOf (s .said) (s .group) (s .batch) k line) where
+module _ {f : Fault} (s : State) (k : Kind) (line : List ℕ) (e : f ≡ faultOf (s .before) (s .batch) k line) where
   pub as-refused : {x : Judged} → (f .number ≡ 0 → ⊥) → x ≡ refused s (f .column) (f .number) → x ≡ judgedAs s k line
   unfolding judgedAs pick
   as-refused z h = h ∙ sym (ap (judgedBy s k line) (sym e) ∙ rw (ne-eqb _ _ z))
@@ -43,28 +43,28 @@ module _ {f : Fault} (s : State) (k : Kind) (line : List ℕ) (e : f ≡ faultOf
   pub as-taken : {u : State} → f .number ≡ 0 → u ≡ nextFor s k (valuesOf k line) → taken k u ≡ judgedAs s k line
   unfolding judgedAs pick
   as-taken z h =
-      let v = valued (s .said) (s .group) (s .batch) k line (ap (λ (g : Fault). g .number) (sym e) ∙ z) in
+      let v = valued (s .before) (s .batch) k line (ap (λ (g : Fault). g .number) (sym e) ∙ z) in
       ap (taken k) (h ∙ ap (nextFor s k) v) ∙ sym (ap (judgedBy s k line) (sym e) ∙ rw (eq-eqb _ _ z))
 
 -- ## A transaction
 
-module _ {r : TransactionRead} (s : State) (line : List ℕ) (e : r ≡ transactionOf (s .group) (s .batch .account) line) where
+module _ {r : TransactionRead} (s : State) (line : List ℕ) (e : r ≡ transactionOf (s .before .group) (s .batch .account) line) where
   pub pay-refused : {x : Judged} → (r .number ≡ 0 → ⊥) → x ≡ refused s (r .column) (r .number) → x ≡ judgedAs s Transaction line
-  pay-refused z h = as-refused s Transaction line (sym (transaction-refused (s .group) (s .batch) line e (s .said) z)) z h
+  pay-refused z h = as-refused s Transaction line (sym (transaction-refused (s .before) (s .batch) line e z)) z h
 
   module _ {f : Fault} (z : r .number ≡ 0) (m : f ≡ maximaFault (s .batch) (r .read .amount)) where
-    is-fault : f ≡ faultOf (s .said) (s .group) (s .batch) Transaction line
-    is-fault = m ∙ sym (transaction-taken (s .group) (s .batch) line e (s .said) z)
+    is-fault : f ≡ faultOf (s .before) (s .batch) Transaction line
+    is-fault = m ∙ sym (transaction-taken (s .before) (s .batch) line e z)
 
     pub pay-above : {x : Judged} → (f .number ≡ 0 → ⊥) → x ≡ refused s (f .column) (f .number) → x ≡ judgedAs s Transaction line
     pay-above y h = as-refused s Transaction line is-fault y h
 
     pub pay-taken : {u : State} → f .number ≡ 0 → u ≡ paid s (r .read) → taken Transaction u ≡ judgedAs s Transaction line
     unfolding judgedAs pick
-    pay-taken y h = ap (taken Transaction) (h ∙ ap (λ t. paid s t) (transaction-read (s .group) (s .batch) line e z)) ∙ sym (ap (judgedBy s Transaction line) (sym is-fault) ∙ rw (eq-eqb _ _ y))
+    pay-taken y h = ap (taken Transaction) (h ∙ ap (λ t. paid s t) (transaction-read (s .before) (s .batch) line e z)) ∙ sym (ap (judgedBy s Transaction line) (sym is-fault) ∙ rw (eq-eqb _ _ y))
 
   pub pay-bounded : Bounded (r .read)
-  pay-bounded = let b = transaction-bounded (s .group) (s .batch .account) line e in record { amount = omega (arith, b .amount); payer = omega (arith, b .payer); beneficiary = omega (arith, b .beneficiary) }
+  pay-bounded = let b = transaction-bounded (s .before .group) (s .batch .account) line e in record { amount = omega (arith, b .amount); payer = omega (arith, b .payer); beneficiary = omega (arith, b .beneficiary) }
 
 pub ruleset pays = (pay-refused, pay-above, pay-taken)
 
@@ -134,7 +134,7 @@ module _ (s : State) (xs : List ℕ) where
 
 pub ruleset firsts = (first-beyond, first-done, first-line, first-broken)
 
--- ## What is kept from line to line
+-- ## The limits after a line
 
 fix-room : (s : State) → allowed s FixedDescription ≡ true → s .batch .fixed < maxFixed
 unfolding allowed mayFix
@@ -148,61 +148,61 @@ text-room : (s : State) → allowed s Description ≡ true → s .item .descript
 unfolding allowed mayDescribe
 text-room s a =
     let r = s .item .reference in
-    omega (arith, ltb-true (s .item .descriptions) (mostDescriptions r) (and-second (mayText (s .stage) (s .group) (s .item .name)) _ a), four-at-most r)
+    omega (arith, ltb-true (s .item .descriptions) (mostDescriptions r) (and-second (mayText (s .stage) (s .before .group) (s .item .name)) _ a), four-at-most r)
 
 abbrev Roomy : Batch → ℕ → Type 0
 Roomy b n = (b .items < 100000) × (b .total + n ≤ 4537802160901)
 
-item-room : (said : Bool) (g : Group) (b : Batch) (line : List ℕ) → faultOf said g b Transaction line .number ≡ 0 → Roomy b (transactionFor (fieldsOf Transaction line) .amount)
-item-room said g b line z = by (transactionOf g (b .account) line) refl (eqb (transactionOf g (b .account) line .number) 0) refl
+item-room : (p : Before) (b : Batch) (line : List ℕ) → faultOf p b Transaction line .number ≡ 0 → Roomy b (transactionFor (fieldsOf Transaction line) .amount)
+item-room p b line z = by (transactionOf (p .group) (b .account) line) refl (eqb (transactionOf (p .group) (b .account) line .number) 0) refl
   where
-    by : (r : TransactionRead) → r ≡ transactionOf g (b .account) line → (q : Bool) → eqb (r .number) 0 ≡ q → Roomy b (transactionFor (fieldsOf Transaction line) .amount)
+    by : (r : TransactionRead) → r ≡ transactionOf (p .group) (b .account) line → (q : Bool) → eqb (r .number) 0 ≡ q → Roomy b (transactionFor (fieldsOf Transaction line) .amount)
     by r e true h =
         let y = eqb-true (r .number) 0 h in
-        let m = ap (λ (f : Fault). f .number) (sym (transaction-taken g b line e said y)) ∙ z in
-        subst (λ t. Roomy b (t .amount)) (transaction-read g b line e y) (maxima-kept b (r .read .amount) m)
-    by r e false h = absurd (eqb-false (r .number) 0 h (ap (λ (f : Fault). f .number) (sym (transaction-refused g b line e said (eqb-false (r .number) 0 h))) ∙ z))
+        let m = ap (λ (f : Fault). f .number) (sym (transaction-taken p b line e y)) ∙ z in
+        subst (λ t. Roomy b (t .amount)) (transaction-read p b line e y) (below-maxima b (r .read .amount) m)
+    by r e false h = absurd (eqb-false (r .number) 0 h (ap (λ (f : Fault). f .number) (sym (transaction-refused p b line e (eqb-false (r .number) 0 h))) ∙ z))
 
-same-kept : {s u : State} → u .batch ≡ s .batch → u .item .descriptions ≡ s .item .descriptions → Kept s → Kept u
-same-kept b d k =
+same-limited : {s u : State} → u .before ≡ s .before → u .batch ≡ s .batch → u .item .descriptions ≡ s .item .descriptions → Limited s → Limited u
+same-limited p b d k =
     record {
       items = rw b (k .items);
       total = rw b (k .total);
       accounts = rw b (k .accounts);
-      sequence = rw b (k .sequence);
+      sequence = rw p (k .sequence);
       fixed = rw b (k .fixed);
       descriptions = rw d (k .descriptions);
     }
 
-kept-next : (s : State) (k : Kind) (line : List ℕ) → allowed s k ≡ true → faultOf (s .said) (s .group) (s .batch) k line .number ≡ 0 → Kept s → Kept (nextFor s k (fieldsOf k line))
-kept-next s FileHeader line a f k = same-kept {s = s} refl refl k
-kept-next s BatchHeaderB line a f k =
-    record { items = zero-le; total = zero-le; accounts = zero-le; sequence = header-bounded (s .said) (s .group) (s .batch) line f; fixed = zero-le; descriptions = zero-le }
-kept-next s BatchHeaderC line a f k =
-    record { items = zero-le; total = zero-le; accounts = zero-le; sequence = identified-bounded (s .said) (s .group) (s .batch) line f; fixed = zero-le; descriptions = zero-le }
-kept-next s FixedDescription line a f k =
+limited-next : (s : State) (k : Kind) (line : List ℕ) → allowed s k ≡ true → faultOf (s .before) (s .batch) k line .number ≡ 0 → Limited s → Limited (nextFor s k (fieldsOf k line))
+limited-next s FileHeader line a f k = same-limited {s = s} refl refl refl k
+limited-next s BatchHeaderB line a f k =
+    record { items = zero-le; total = zero-le; accounts = zero-le; sequence = header-bounded (s .before) (s .batch) line f; fixed = zero-le; descriptions = zero-le }
+limited-next s BatchHeaderC line a f k =
+    record { items = zero-le; total = zero-le; accounts = zero-le; sequence = identified-bounded (s .before) (s .batch) line f; fixed = zero-le; descriptions = zero-le }
+limited-next s FixedDescription line a f k =
     let r = fix-room s a in
     record { items = k .items; total = k .total; accounts = k .accounts; sequence = k .sequence; fixed = omega arith; descriptions = k .descriptions }
-kept-next s OrderingParty line a f k = same-kept {s = s} refl refl k
-kept-next s Transaction line a f k =
-    let r = item-room (s .said) (s .group) (s .batch) line f in
+limited-next s OrderingParty line a f k = same-limited {s = s} refl refl refl k
+limited-next s Transaction line a f k =
+    let r = item-room (s .before) (s .batch) line f in
     record { items = omega arith; total = r .1; accounts = omega arith; sequence = k .sequence; fixed = k .fixed; descriptions = zero-le }
-kept-next s NamePayer line a f k = same-kept {s = s} refl refl k
-kept-next s CityPayer line a f k = same-kept {s = s} refl refl k
-kept-next s PaymentReference line a f k = same-kept {s = s} refl refl k
-kept-next s Description line a f k =
+limited-next s NamePayer line a f k = same-limited {s = s} refl refl refl k
+limited-next s CityPayer line a f k = same-limited {s = s} refl refl refl k
+limited-next s PaymentReference line a f k = same-limited {s = s} refl refl refl k
+limited-next s Description line a f k =
     let r = text-room s a in
     record { items = k .items; total = k .total; accounts = k .accounts; sequence = k .sequence; fixed = k .fixed; descriptions = omega arith }
-kept-next s NameBeneficiary line a f k = same-kept {s = s} refl refl k
-kept-next s CityBeneficiary line a f k = same-kept {s = s} refl refl k
-kept-next s BatchTrailer line a f k =
+limited-next s NameBeneficiary line a f k = same-limited {s = s} refl refl refl k
+limited-next s CityBeneficiary line a f k = same-limited {s = s} refl refl refl k
+limited-next s BatchTrailer line a f k =
     record { items = zero-le; total = zero-le; accounts = zero-le; sequence = k .sequence; fixed = zero-le; descriptions = zero-le }
-kept-next s FileTrailer line a f k = same-kept {s = s} refl refl k
+limited-next s FileTrailer line a f k = same-limited {s = s} refl refl refl k
 
-kept-first : {s : State} {xs : List ℕ} {j : Judged} → Kept s → First s xs j → Kept (j .next)
-kept-first k (beyond w) = k
-kept-first k (halted w c n z) = k
-kept-first {s} {xs} k (moved w m c a f) = kept-next s m (take 50 xs) a f k
+limited-first : {s : State} {xs : List ℕ} {j : Judged} → Limited s → First s xs j → Limited (j .next)
+limited-first k (beyond w) = k
+limited-first k (halted w c n z) = k
+limited-first {s} {xs} k (moved w m c a f) = limited-next s m (take 50 xs) a f k
 
-pub kept-after : {j : Judged} (s : State) (xs : List ℕ) → j ≡ judgedFirst s xs → Kept s → Kept (j .next)
-kept-after s xs e k = subst (λ (i : Judged). Kept (i .next)) (sym e) (kept-first k (first s xs))
+pub limited-after : {j : Judged} (s : State) (xs : List ℕ) → j ≡ judgedFirst s xs → Limited s → Limited (j .next)
+limited-after s xs e k = subst (λ (i : Judged). Limited (i .next)) (sym e) (limited-first k (first s xs))

@@ -9,17 +9,17 @@ use mir.Val.{Fits}
 use mir.Syntax.{w64}
 use Rattle.machine.proofs.Base.{and-first, and-second}
 use Rattle.format.specs.Rules.{maxItems, maxTotal, maxAccount, maxSequence, maxFixed, maxDescriptions}
-use Rattle.reading.specs.State.{maxLine, isKept, within, Kept}
+use Rattle.reading.specs.State.{maxLine, isLimited, within, Limited}
 use Rattle.reading.specs.declared.State.{State}
 
-kept-facts : {b : Bool} (s : State) → b ≡ isKept s → b ≡ true → Kept s
-unfolding isKept
-kept-facts s e t =
+limited-facts : {b : Bool} (s : State) → b ≡ isLimited s → b ≡ true → Limited s
+unfolding isLimited
+limited-facts s e t =
     let a = sym e ∙ t in
     let a1 = and-second (leb (s .batch .items) maxItems) _ a in
     let a2 = and-second (leb (s .batch .total) maxTotal) _ a1 in
     let a3 = and-second (leb (s .batch .accounts) maxAccount) _ a2 in
-    let a4 = and-second (leb (s .batch .sequence) maxSequence) _ a3 in
+    let a4 = and-second (leb (s .before .sequence) maxSequence) _ a3 in
     record {
       items = leb-true _ maxItems (and-first _ _ a);
       total = leb-true _ maxTotal (and-first _ _ a1);
@@ -29,22 +29,22 @@ kept-facts s e t =
       descriptions = leb-true _ maxDescriptions (and-second (leb (s .batch .fixed) maxFixed) _ a4);
     }
 
-kept-test : (s : State) → Kept s → isKept s ≡ true
-unfolding isKept
-kept-test s k =
+limited-test : (s : State) → Limited s → isLimited s ≡ true
+unfolding isLimited
+limited-test s k =
     rw (
       le-leb (s .batch .items) maxItems (k .items),
       le-leb (s .batch .total) maxTotal (k .total),
       le-leb (s .batch .accounts) maxAccount (k .accounts),
-      le-leb (s .batch .sequence) maxSequence (k .sequence),
+      le-leb (s .before .sequence) maxSequence (k .sequence),
       le-leb (s .batch .fixed) maxFixed (k .fixed),
       le-leb (s .item .descriptions) maxDescriptions (k .descriptions),
     )
 
--- with the batch and the item kept, the line number decides
-pub within-yes : (s : State) → Kept s → s .line ≤ 6999369995 → within s ≡ true
+-- within the other limits the line number decides
+pub within-yes : (s : State) → Limited s → s .line ≤ 6999369995 → within s ≡ true
 unfolding within
-within-yes s k h = rw (le-leb (s .line) maxLine h) (kept-test s k)
+within-yes s k h = rw (le-leb (s .line) maxLine h) (limited-test s k)
 
 pub within-no : (s : State) → 6999369995 < s .line → within s ≡ false
 unfolding within
@@ -54,11 +54,11 @@ pub within-line : (s : State) → within s ≡ true → s .line ≤ 6999369995
 unfolding within
 within-line s h = leb-true (s .line) maxLine (and-first _ _ h)
 
-pub within-kept : {b : Bool} (s : State) → b ≡ within s → b ≡ true → Kept s
+pub within-limited : {b : Bool} (s : State) → b ≡ within s → b ≡ true → Limited s
 unfolding within
-within-kept s e t = kept-facts s refl (and-second (leb (s .line) maxLine) _ (sym e ∙ t))
+within-limited s e t = limited-facts s refl (and-second (leb (s .line) maxLine) _ (sym e ∙ t))
 
-pub within-of : {b x : Bool} (s : State) → b ≡ isKept s → x ≡ (leb (s .line) maxLine && b) → x ≡ within s
+pub within-of : {b x : Bool} (s : State) → b ≡ isLimited s → x ≡ (leb (s .line) maxLine && b) → x ≡ within s
 unfolding within
 within-of s e h = rw (← e) h
 

@@ -10,6 +10,8 @@ use Rattle.format.specs.declared.Kind.the-variants.{BatchHeaderB, Transaction}
 use Rattle.format.specs.declared.Group.{Group}
 use Rattle.field.specs.Leaf.{digitsOf}
 use Rattle.record.specs.Read.{transactionFor, valuesOf}
+use Rattle.record.specs.Faults.{afterHeader}
+use Rattle.record.specs.declared.Before.{Before}
 use Rattle.record.specs.declared.Batch.{Batch}
 use Rattle.record.specs.declared.TransactionFields.{TransactionFields}
 use Rattle.record.proofs.Reading.{value-small}
@@ -20,15 +22,17 @@ use Rattle.reading.specs.declared.Name.{Name}
 use Rattle.reading.specs.declared.OpenItem.{OpenItem}
 use Rattle.reading.specs.declared.State.{State}
 
-pub onward-via : {x : State} {g h : Group} {b c : Batch} {i j : OpenItem} (s : State) (p : Stage) (d : Bool) → g ≡ h → b ≡ c → i ≡ j → x ≡ onward s p g d b i → x ≡ onward s p h d c j
-onward-via s p d e f k h = h ∙ rw (e, f, k)
+pub header-via : {e : Before} {g h : Group} {n m : ℕ} (p : Before) → g ≡ h → n ≡ m → e ≡ afterHeader p g n → e ≡ afterHeader p h m
+header-via p f k e = e ∙ rw (f, k)
 
-pub texted-via : {x : State} {n : Name} (s : State) (r : Bool) (d : ℕ) → n ≡ afterText (s .item .name) → x ≡ onward s (s .stage) (s .group) (s .said) (s .batch) (record { name = n; reference = r; descriptions = d }) → x ≡ texted s r d
+pub onward-via : {x : State} {d e : Before} {b c : Batch} {i j : OpenItem} (s : State) (p : Stage) → d ≡ e → b ≡ c → i ≡ j → x ≡ onward s p d b i → x ≡ onward s p e c j
+onward-via s p e f k h = h ∙ rw (e, f, k)
+
+pub texted-via : {x : State} {n : Name} (s : State) (r : Bool) (d : ℕ) → n ≡ afterText (s .item .name) → x ≡ onward s (s .stage) (s .before) (s .batch) (record { name = n; reference = r; descriptions = d }) → x ≡ texted s r d
 texted-via s r d e h = h ∙ rw e
 
-pub opened-made : {a q : ℕ} (line : List ℕ) → a ≡ digitsOf (take 10 (drop 7 line)) .value → q ≡ digitsOf (take 4 (drop 17 line)) .value
-    → _≡_ {A = Batch} (record { account = a; sequence = q; items = 0; total = 0; accounts = 0; fixed = 0 }) (openedBatch (valuesOf BatchHeaderB line))
-opened-made line e h = rw (e, h)
+pub opened-made : {a : ℕ} (line : List ℕ) → a ≡ digitsOf (take 10 (drop 7 line)) .value → _≡_ {A = Batch} (record { account = a; items = 0; total = 0; accounts = 0; fixed = 0 }) (openedBatch (valuesOf BatchHeaderB line))
+opened-made line e = rw e
 
 pub item-made : {u : Bool} {n : Name} (t : TransactionFields) → u ≡ needsName (t .kind) → n ≡ nameIf u → _≡_ {A = OpenItem} (record { name = n; reference = false; descriptions = 0 }) (openedItem t)
 item-made t e h = rw (h, e)

@@ -7,7 +7,8 @@ use lib.Dec.{eqb, ltb}
 use Rattle.format.specs.declared.Kind.{Kind}
 use Rattle.format.specs.declared.Group.{Group}
 use Rattle.format.specs.declared.Group.the-variants.{Payments, Debits}
-use Rattle.record.specs.Faults.{emptyBatch}
+use Rattle.record.specs.Faults.{nothingBefore, emptyBatch}
+use Rattle.record.specs.declared.Before.{Before}
 use Rattle.record.specs.declared.Batch.{Batch}
 use Rattle.reading.specs.State.{noItem, startState}
 use Rattle.reading.specs.Order.{isName, textsBy, allowed, allowedBy}
@@ -50,5 +51,5 @@ pub allowed-via : {x : Bool} {k : Kind} (s : State) (m : Kind) → k ≡ m → x
 unfolding allowed
 allowed-via s m e h = rw e h
 
-pub started : {b : Batch} {i : OpenItem} → b ≡ emptyBatch → i ≡ noItem → _≡_ {A = State} (record { line = 0; stage = Start; group = Payments; said = false; batch = b; item = i }) startState
-started e h = rw (e, h)
+pub started : {p : Before} {b : Batch} {i : OpenItem} → p ≡ nothingBefore → b ≡ emptyBatch → i ≡ noItem → _≡_ {A = State} (record { line = 0; stage = Start; before = p; batch = b; item = i }) startState
+started e f h = rw (e, f, h)

@@ -12,7 +12,7 @@ use Rattle.machine.specs.Lists.{pick}
 use Rattle.machine.proofs.Base.{and-first}
 use Rattle.format.specs.Cutting.{rows}
 use Rattle.format.proofs.ByRows.{rows-first, rows-at, rows-none}
-use Rattle.reading.specs.State.{Kept}
+use Rattle.reading.specs.State.{Limited}
 use Rattle.reading.specs.Step.{refused, isWhole, judgedFirst}
 use Rattle.reading.specs.Check.{linesBy}
 use Rattle.reading.specs.declared.State.{State}
@@ -58,8 +58,8 @@ run-none start bytes e = record { rest = rw e }
 pub run-from : {x j : Judged} (start : State) (bytes : List ℕ) → j ≡ refused start 0 0 → x ≡ linesBy (refused (j .next) 0 0) (rows bytes) → x ≡ linesBy (refused start 0 0) (rows bytes)
 run-from start bytes e h = h ∙ ap (λ (i : Judged). linesBy (refused (i .next) 0 0) (rows bytes)) e
 
-pub kept-start : {j : Judged} (start : State) → j ≡ refused start 0 0 → Kept start → Kept (j .next)
-kept-start start e k = rw e k
+pub limited-start : {j : Judged} (start : State) → j ≡ refused start 0 0 → Limited start → Limited (j .next)
+limited-start start e k = rw e k
 
 pub run-all : {start : State} {bytes : List ℕ} {last : Judged} {at : ℕ} → Running start bytes last at → length bytes ≤ at → last ≡ linesBy (refused start 0 0) (rows bytes)
 unfolding linesBy
@@ -78,4 +78,4 @@ module _ {start : State} {bytes p : List ℕ} {last : Judged} {at : ℕ} {j : Ju
   unfolding pick
   run-more z = record { rest = rw (eq-eqb _ _ z) at one }
 
-pub ruleset runs = (run-none, run-from, kept-start, run-all, run-stop, run-more)
+pub ruleset runs = (run-none, run-from, limited-start, run-all, run-stop, run-more)

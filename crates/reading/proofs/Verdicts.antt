@@ -41,9 +41,9 @@ next-line s FileTrailer x = refl
 
 pub data Verdict (s : State) (line : List ℕ) : Judged → Type 0 where
   stopped : (c n : ℕ) → (n ≡ 0 → ⊥) → Verdict s line (refused s c n)
-  went : (k : Kind) → codeOf (take 5 line) ≡ Of k → allowed s k ≡ true → faultOf (s .said) (s .group) (s .batch) k line .number ≡ 0 → Verdict s line (taken k (nextFor s k (fieldsOf k line)))
+  went : (k : Kind) → codeOf (take 5 line) ≡ Of k → allowed s k ≡ true → faultOf (s .before) (s .batch) k line .number ≡ 0 → Verdict s line (taken k (nextFor s k (fieldsOf k line)))
 
-by-fault : (s : State) (line : List ℕ) (k : Kind) (f : Fault) → codeOf (take 5 line) ≡ Of k → allowed s k ≡ true → faultOf (s .said) (s .group) (s .batch) k line ≡ f → (q : Bool) → eqb (f .number) 0 ≡ q
+by-fault : (s : State) (line : List ℕ) (k : Kind) (f : Fault) → codeOf (take 5 line) ≡ Of k → allowed s k ≡ true → faultOf (s .before) (s .batch) k line ≡ f → (q : Bool) → eqb (f .number) 0 ≡ q
     → Verdict s line (pick q (taken k (nextFor s k (fieldsOf k line))) (refused s (f .column) (f .number)))
 unfolding pick
 by-fault s line k f c a e true h = went k c a (ap (λ (g : Fault). g .number) e ∙ eqb-true (f .number) 0 h)
@@ -51,7 +51,7 @@ by-fault s line k f c a e false h = stopped (f .column) (f .number) (eqb-false (
 
 by-place : (s : State) (line : List ℕ) (k : Kind) → codeOf (take 5 line) ≡ Of k → (q : Bool) → allowed s k ≡ q → Verdict s line (pick q (judgedAs s k line) (refused s 1 3))
 unfolding pick judgedAs
-by-place s line k c true h = by-fault s line k (faultOf (s .said) (s .group) (s .batch) k line) c h refl (eqb (faultOf (s .said) (s .group) (s .batch) k line .number) 0) refl
+by-place s line k c true h = by-fault s line k (faultOf (s .before) (s .batch) k line) c h refl (eqb (faultOf (s .before) (s .batch) k line .number) 0) refl
 by-place s line k c false h = stopped 1 3 (λ e. omega arith)
 
 by-code : (s : State) (line : List ℕ) (c : Code) → codeOf (take 5 line) ≡ c → Verdict s line (judgedCode s line c)
@@ -68,7 +68,7 @@ verdict s line = by-code s line (codeOf (take 5 line)) refl
 pub data First (s : State) (xs : List ℕ) : Judged → Type 0 where
   beyond : within s ≡ false → First s xs (refused s 0 24)
   halted : within s ≡ true → (c n : ℕ) → (n ≡ 0 → ⊥) → First s xs (refused s c n)
-  moved : within s ≡ true → (k : Kind) → codeOf (take 5 (take 50 xs)) ≡ Of k → allowed s k ≡ true → faultOf (s .said) (s .group) (s .batch) k (take 50 xs) .number ≡ 0 → First s xs (taken k (nextFor s k (fieldsOf k (take 50 xs))))
+  moved : within s ≡ true → (k : Kind) → codeOf (take 5 (take 50 xs)) ≡ Of k → allowed s k ≡ true → faultOf (s .before) (s .batch) k (take 50 xs) .number ≡ 0 → First s xs (taken k (nextFor s k (fieldsOf k (take 50 xs))))
 
 of-verdict : {s : State} {xs : List ℕ} {j : Judged} → within s ≡ true → Verdict s (take 50 xs) j → First s xs j
 of-verdict w (stopped c n z) = halted w c n z
@@ -99,7 +99,7 @@ pub record Taken (s : State) (xs : List ℕ) : Type 0 where
   pub kind : Kind
   pub coded : codeOf (take 5 (take 50 xs)) ≡ Of kind
   pub placed : allowed s kind ≡ true
-  pub faultless : faultOf (s .said) (s .group) (s .batch) kind (take 50 xs) .number ≡ 0
+  pub faultless : faultOf (s .before) (s .batch) kind (take 50 xs) .number ≡ 0
   pub is : judgedFirst s xs ≡ taken kind (nextFor s kind (fieldsOf kind (take 50 xs)))
 
 parts : (s : State) (xs : List ℕ) → judgedFirst s xs .number ≡ 0 → (isDone s ≡ false) × (isWhole xs ≡ true)

@@ -3,8 +3,7 @@ use Prim.Native.Nat.{ℕ, _≤_}
 use mathlib.Core.Bool.{Bool, false, _&&_}
 use lib.Dec.{leb}
 use Rattle.format.specs.Rules.{maxItems, maxTotal, maxAccount, maxSequence, maxFixed, maxDescriptions}
-use Rattle.format.specs.declared.Group.the-variants.{Payments}
-use Rattle.record.specs.Faults.{emptyBatch}
+use Rattle.record.specs.Faults.{nothingBefore, emptyBatch}
 use Rattle.reading.specs.declared.Stage.the-variants.{Start}
 use Rattle.reading.specs.declared.Name.the-variants.{Unwanted}
 use Rattle.reading.specs.declared.OpenItem.{OpenItem}
@@ -14,31 +13,31 @@ abbrev pub noItem : OpenItem
 noItem = record { name = Unwanted; reference = false; descriptions = 0 }
 
 abbrev pub startState : State
-startState = record { line = 0; stage = Start; group = Payments; said = false; batch = emptyBatch; item = noItem }
+startState = record { line = 0; stage = Start; before = nothingBefore; batch = emptyBatch; item = noItem }
 
 -- the lines of the longest accepted file
 abbrev pub maxLine : ℕ
 maxLine = 6999369995
 
--- the limits of a batch and an open item
-unfoldable pub isKept : State → Bool
-isKept s =
+-- the limits of a state but for its line number
+unfoldable pub isLimited : State → Bool
+isLimited s =
     leb (s .batch .items) maxItems
     && (leb (s .batch .total) maxTotal
     && (leb (s .batch .accounts) maxAccount
-    && (leb (s .batch .sequence) maxSequence
+    && (leb (s .before .sequence) maxSequence
     && (leb (s .batch .fixed) maxFixed
     && leb (s .item .descriptions) maxDescriptions))))
 
 -- answer 24 is for a state beyond these
 unfoldable pub within : State → Bool
-within s = leb (s .line) maxLine && isKept s
+within s = leb (s .line) maxLine && isLimited s
 
--- those of the batch and the open item as facts
-pub record Kept (s : State) : Type 0 where
+-- those but for its line number as facts
+pub record Limited (s : State) : Type 0 where
   pub items : s .batch .items ≤ maxItems
   pub total : s .batch .total ≤ maxTotal
   pub accounts : s .batch .accounts ≤ maxAccount
-  pub sequence : s .batch .sequence ≤ maxSequence
+  pub sequence : s .before .sequence ≤ maxSequence
   pub fixed : s .batch .fixed ≤ maxFixed
   pub descriptions : s .item .descriptions ≤ maxDescriptions

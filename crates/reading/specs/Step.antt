@@ -11,13 +11,14 @@ use Rattle.format.specs.Language.{tenDigits}
 use Rattle.format.specs.Answers.{accepted, brokenLine, unknownRecord, misplacedRecord, endsEarly, afterTrailer, beyondLimits}
 use Rattle.format.specs.declared.Kind.{Kind}
 use Rattle.format.specs.declared.Kind.the-variants.{FileHeader, BatchHeaderB, BatchHeaderC, FixedDescription, OrderingParty, Transaction, NamePayer, CityPayer, PaymentReference, Description, NameBeneficiary, CityBeneficiary, BatchTrailer, FileTrailer}
-use Rattle.format.specs.declared.Group.{Group}
 use Rattle.format.specs.declared.Code.{Code}
 use Rattle.format.specs.declared.Code.the-variants.{Of, Unknown}
 use Rattle.record.specs.Kinds.{codeOf}
-use Rattle.record.specs.Faults.{fieldsOf, faultOf}
+use Rattle.record.specs.Faults.{afterHeader, emptyBatch, fieldsOf, faultOf}
 use Rattle.record.specs.Read.{transactionFor, recordFor, textFor, noText}
+use Rattle.record.specs.declared.Before.{Before}
 use Rattle.record.specs.declared.Batch.{Batch}
+use Rattle.record.specs.declared.ClosedBatch.{ClosedBatch}
 use Rattle.record.specs.declared.Fault.{Fault}
 use Rattle.record.specs.declared.TransactionFields.{TransactionFields}
 use Rattle.record.specs.declared.Record.the-variants.{Nothing}
@@ -35,30 +36,29 @@ use Rattle.reading.specs.declared.LineRead.{LineRead}
 -- ## The state after a record
 
 -- one line more, and all that a record can change
-abbrev pub onward : State → Stage → Group → Bool → Batch → OpenItem → State
-onward s p g said b i = record { line = s .line + 1; stage = p; group = g; said = said; batch = b; item = i }
+abbrev pub onward : State → Stage → Before → Batch → OpenItem → State
+onward s p e b i = record { line = s .line + 1; stage = p; before = e; batch = b; item = i }
 
 abbrev pub moved : State → Stage → State
-moved s p = onward s p (s .group) (s .said) (s .batch) (s .item)
+moved s p = onward s p (s .before) (s .batch) (s .item)
 
 abbrev pub openedBatch : Fields BatchHeaderB → Batch
-openedBatch x = record { account = orderingAccount x; sequence = sequence x; items = 0; total = 0; accounts = 0; fixed = 0 }
+openedBatch x = record { account = orderingAccount x; items = 0; total = 0; accounts = 0; fixed = 0 }
 
 abbrev pub opened : State → Fields BatchHeaderB → State
-opened s x = onward s Opened (groupOf (group x)) true (openedBatch x) noItem
+opened s x = onward s Opened (afterHeader (s .before) (groupOf (group x)) (sequence x)) (openedBatch x) noItem
 
 abbrev pub fixedOne : Batch → Batch
-fixedOne b = record { account = b .account; sequence = b .sequence; items = b .items; total = b .total; accounts = b .accounts; fixed = b .fixed + 1 }
+fixedOne b = record { account = b .account; items = b .items; total = b .total; accounts = b .accounts; fixed = b .fixed + 1 }
 
 abbrev pub withFixed : State → State
-withFixed s = onward s (s .stage) (s .group) (s .said) (fixedOne (s .batch)) (s .item)
+withFixed s = onward s (s .stage) (s .before) (fixedOne (s .batch)) (s .item)
 
 -- a batch with one item more: 'sum of all payers and beneficiaries, rightmost ten digits'
 abbrev pub paidBatch : Batch → TransactionFields → Batch
 paidBatch b t =
     record {
       account = b .account;
-      sequence = b .sequence;
       items = b .items + 1;
       total = b .total + t .amount;
       accounts = tenDigits (b .accounts + t .payer + t .beneficiary);
@@ -73,10 +73,10 @@ abbrev pub openedItem : TransactionFields → OpenItem
 openedItem t = record { name = nameIf (needsName (t .kind)); reference = false; descriptions = 0 }
 
 abbrev pub paid : State → TransactionFields → State
-paid s t = onward s Item (s .group) (s .said) (paidBatch (s .batch) t) (openedItem t)
+paid s t = onward s Item (s .before) (paidBatch (s .batch) t) (openedItem t)
 
 abbrev pub named : State → Name → State
-named s n = onward s (s .stage) (s .group) (s .said) (s .batch) (record { name = n; reference = s .item .reference; descriptions = s .item .descriptions })
+named s n = onward s (s .stage) (s .before) (s .batch) (record { name = n; reference = s .item .reference; descriptions = s .item .descriptions })
 
 -- after a reference or a description no city follows the name
 abbrev pub afterText : Name → Name
@@ -86,14 +86,15 @@ afterText Read = Past
 afterText Past = Past
 
 abbrev pub texted : State → Bool → ℕ → State
-texted s r n = onward s (s .stage) (s .group) (s .said) (s .batch) (record { name = afterText (s .item .name); reference = r; descriptions = n })
+texted s r n = onward s (s .stage) (s .before) (s .batch) (record { name = afterText (s .item .name); reference = r; descriptions = n })
 
--- a closed batch leaves its number
-abbrev pub closedBatch : Batch → Batch
-closedBatch b = record { account = 0; sequence = b .sequence; items = 0; total = 0; accounts = 0; fixed = 0 }
-
+-- a closed batch leaves its group and number
 abbrev pub closed : State → State
-closed s = onward s Closed (s .group) true (closedBatch (s .batch)) noItem
+closed s = onward s Closed (afterHeader (s .before) (s .before .group) (s .before .sequence)) emptyBatch noItem
+
+-- the batch that a trailer closes, as the state before the trailer has it. (Its items, total and account sum are those of a trailer that is accepted: `trailer-says` in file/proofs/Faults.antt.)
+abbrev pub closing : State → ClosedBatch
+closing s = record { group = s .before .group; account = s .batch .account; sequence = s .before .sequence; items = s .batch .items; total = s .batch .total; accounts = s .batch .accounts }
 
 abbrev pub nextFor : State → (k : Kind) → Fields k → State
 nextFor s FileHeader x = moved s Headed
@@ -125,7 +126,7 @@ abbrev pub judgedBy : State → Kind → List ℕ → Fault → Judged
 judgedBy s k line f = pick (eqb (f .number) 0) (taken k (nextFor s k (fieldsOf k line))) (refused s (f .column) (f .number))
 
 unfoldable pub judgedAs : State → Kind → List ℕ → Judged
-judgedAs s k line = judgedBy s k line (faultOf (s .said) (s .group) (s .batch) k line)
+judgedAs s k line = judgedBy s k line (faultOf (s .before) (s .batch) k line)
 
 -- 2, 3, then the fields
 unfoldable pub judgedKind : State → Kind → List ℕ → Judged

@@ -3,7 +3,7 @@ ghost use mathlib.Core.Path.{_≡_};
 ghost use Prim.Native.Nat.{_≤_};
 ghost use Rattle.format.specs.Cutting.{rows};
 ghost use Rattle.format.specs.declared.Kind.the-variants.{Transaction};
-ghost use Rattle.reading.specs.State.{Kept, maxLine, isKept, within};
+ghost use Rattle.reading.specs.State.{Limited, maxLine, isLimited, within};
 ghost use Rattle.reading.specs.Order.{isTransaction};
 ghost use Rattle.reading.specs.Step.{refused, judgedAs, judgedKind, judgedLine, isWhole, judgedFirst};
 ghost use Rattle.reading.specs.Check.{linesBy, linesOf};
@@ -65,10 +65,11 @@ impl State {
     // A transaction, whose fields are read once.
     fn transaction(self, line: &[u8]) -> Judged
         requires line { ⌜ self .line ≤ maxLine ⌝ }
-        requires kept { ⌜ Kept self ⌝ }
+        requires limited { ⌜ Limited self ⌝ }
         ensures { λ r. ⌜ r ≡ judgedAs self Transaction (now (line .entry)) ⌝ }
     {
-        let group = self.group;
+        let before = self.before;
+        let group = before.group;
         let batch = self.batch;
         let r = transaction_in(line, group, batch.account);
         if r.number != 0 {
@@ -90,12 +91,12 @@ impl State {
 
     fn judge_as(self, k: Kind, line: &[u8]) -> Judged
         requires line { ⌜ self .line ≤ maxLine ⌝ }
-        requires kept { ⌜ Kept self ⌝ }
+        requires limited { ⌜ Limited self ⌝ }
         ensures { λ r. ⌜ r ≡ judgedAs self k (now (line .entry)) ⌝ }
     {
-        let group = self.group;
+        let before = self.before;
         let batch = self.batch;
-        let f = fault_in(k, line, self.said, group, batch);
+        let f = fault_in(k, line, before, batch);
         if f.number != 0 {
             return self.refused(f.number, f.column);
         }
@@ -110,7 +111,7 @@ impl State {
 
     fn judge_kind(self, k: Kind, line: &[u8]) -> Judged
         requires line { ⌜ self .line ≤ maxLine ⌝ }
-        requires kept { ⌜ Kept self ⌝ }
+        requires limited { ⌜ Limited self ⌝ }
         ensures { λ r. ⌜ r ≡ judgedKind self k (now (line .entry)) ⌝ }
     {
         if self.allows(k) {
@@ -126,7 +127,7 @@ impl State {
     // The 50 characters of a line.
     fn judge(self, line: &[u8]) -> Judged
         requires line { ⌜ self .line ≤ maxLine ⌝ }
-        requires kept { ⌜ Kept self ⌝ }
+        requires limited { ⌜ Limited self ⌝ }
         ensures { λ r. ⌜ r ≡ judgedLine self (now (line .entry)) ⌝ }
     {
         let code = code_of(line);
@@ -138,7 +139,7 @@ impl State {
 
     // The first line of what remains, of which there is a byte at least.
     fn judge_first(self, rest: &[u8]) -> Judged
-        requires { ⌜ Kept self ⌝ }
+        requires { ⌜ Limited self ⌝ }
         ensures { λ r. ⌜ r ≡ judgedFirst self (now (rest .entry)) ⌝ }
     {
         let stage = self.stage;
@@ -172,7 +173,7 @@ impl State {
 impl Judged {
     // The line after one that was accepted.
     fn then(self, rest: &[u8]) -> Judged
-        requires { ⌜ Kept (self .next) ⌝ }
+        requires { ⌜ Limited (self .next) ⌝ }
         ensures { λ r. ⌜ r ≡ judgedFirst (self .next) (now (rest .entry)) ⌝ }
     {
         let state = self.next;
@@ -181,21 +182,22 @@ impl Judged {
 }
 
 // The limits of a state but for its line number.
-fn is_kept(s: State) -> bool
-    ensures { λ r. ⌜ r ≡ isKept s ⌝ }
+fn is_limited(s: State) -> bool
+    ensures { λ r. ⌜ r ≡ isLimited s ⌝ }
 {
+    let p = s.before;
     let b = s.batch;
     let i = s.item;
     (b.items <= Batch::MAX_ITEMS)
         & ((b.total <= Batch::MAX_TOTAL)
             & ((b.accounts <= format::MAX_ACCOUNT)
-                & ((b.sequence <= Batch::MAX_SEQUENCE)
+                & ((p.sequence <= Batch::MAX_SEQUENCE)
                     & ((b.fixed <= Batch::MAX_FIXED)
                         & (i.descriptions <= format::MAX_DESCRIPTIONS)))))
 }
 
 fn run(start: State, bytes: &[u8]) -> Judged
-    requires { ⌜ Kept start ⌝ }
+    requires { ⌜ Limited start ⌝ }
     ensures { λ r. ⌜ r ≡ linesBy (refused start 0 0) (rows (now (bytes .entry))) ⌝ }
 {
     let mut last = start.refused(0, 0);
@@ -213,5 +215,5 @@ fn run(start: State, bytes: &[u8]) -> Judged
 pub(crate) fn is_within(s: State) -> bool
     ensures { λ r. ⌜ r ≡ within s ⌝ }
 {
-    (s.line <= State::MAX_LINE) & is_kept(s)
+    (s.line <= State::MAX_LINE) & is_limited(s)
 }

@@ -2,8 +2,8 @@
 ghost use mathlib.Core.Path.{_≡_};
 ghost use Rattle.reading.specs.State.{noItem, startState};
 use format::Code;
-use format::Group;
 use record::Batch;
+use record::Before;
 use record::Record;
 
 mod judge;
@@ -38,12 +38,11 @@ pub struct OpenItem {
     pub descriptions: u64,
 }
 
-// A file so far: the lines read, the stage, the group and whether it is said yet, the batch, and the open item.
+// A file so far: the lines read, the stage, what crosses batches, the batch, and the open item.
 pub struct State {
     pub line: u64,
     pub stage: Stage,
-    pub group: Group,
-    pub said: bool,
+    pub before: Before,
     pub batch: Batch,
     pub item: OpenItem,
 }
@@ -91,13 +90,13 @@ impl State {
     pub fn start() -> State
         ensures { λ r. ⌜ r ≡ startState ⌝ }
     {
+        let before = Before::nothing();
         let batch = Batch::empty();
         let item = no_item();
         State {
             line: 0,
             stage: Stage::Start,
-            group: Group::Payments,
-            said: false,
+            before,
             batch,
             item,
         }

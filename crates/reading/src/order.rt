@@ -108,7 +108,8 @@ impl State {
         ensures { λ r. ⌜ r ≡ allowed self k ⌝ }
     {
         let p = self.stage;
-        let g = self.group;
+        let before = self.before;
+        let g = before.group;
         let batch = self.batch;
         let item = self.item;
         let n = item.name;

@@ -4,17 +4,18 @@ ghost use Prim.Native.Nat.{_≤_};
 ghost use Rattle.format.specs.Rules.{maxFixed};
 ghost use Rattle.record.specs.Read.{valuesOf};
 ghost use Rattle.format.specs.declared.Kind.the-variants.{BatchHeaderB};
-ghost use Rattle.reading.specs.State.{Kept, maxLine};
-ghost use Rattle.reading.specs.Step.{onward, moved, openedBatch, opened, fixedOne, withFixed, paidBatch, nameIf, openedItem, paid, named, afterText, texted, closedBatch, closed, nextFor};
+ghost use Rattle.reading.specs.State.{Limited, maxLine};
+ghost use Rattle.reading.specs.Step.{onward, moved, openedBatch, opened, fixedOne, withFixed, paidBatch, nameIf, openedItem, paid, named, afterText, texted, closed, closing, nextFor};
 ghost use Rattle.reading.specs.Bounds.{Roomy, Bounded};
 use crate::Name;
 use crate::OpenItem;
 use crate::Stage;
 use crate::State;
 use crate::no_item;
-use format::Group;
 use format::Kind;
 use record::Batch;
+use record::Before;
+use record::ClosedBatch;
 use record::TransactionFields;
 use record::read::transaction_at;
 use record::read::value_at;
@@ -26,7 +27,6 @@ fn opened_batch(line: &[u8]) -> Batch
 {
     Batch {
         account: value_at(line, 7, 10),
-        sequence: value_at(line, 17, 4),
         items: 0,
         total: 0,
         accounts: 0,
@@ -40,7 +40,6 @@ fn fixed_one(b: Batch) -> Batch
 {
     Batch {
         account: b.account,
-        sequence: b.sequence,
         items: b.items,
         total: b.total,
         accounts: b.accounts,
@@ -55,24 +54,10 @@ fn paid_batch(b: Batch, t: TransactionFields) -> Batch
 {
     Batch {
         account: b.account,
-        sequence: b.sequence,
         items: b.items + 1,
         total: b.total + t.amount,
         accounts: (b.accounts + t.payer + t.beneficiary) % 10000000000,
         fixed: b.fixed,
-    }
-}
-
-fn closed_batch(b: Batch) -> Batch
-    ensures { λ r. ⌜ r ≡ closedBatch b ⌝ }
-{
-    Batch {
-        account: 0,
-        sequence: b.sequence,
-        items: 0,
-        total: 0,
-        accounts: 0,
-        fixed: 0,
     }
 }
 
@@ -107,15 +92,14 @@ fn after_text(n: Name) -> Name
 
 impl State {
     // One line more: all that a record can change.
-    fn onward(self, stage: Stage, group: Group, said: bool, batch: Batch, item: OpenItem) -> State
+    fn onward(self, stage: Stage, before: Before, batch: Batch, item: OpenItem) -> State
         requires { ⌜ self .line ≤ maxLine ⌝ }
-        ensures { λ r. ⌜ r ≡ onward self stage group said batch item ⌝ }
+        ensures { λ r. ⌜ r ≡ onward self stage before batch item ⌝ }
     {
         State {
             line: self.line + 1,
             stage,
-            group,
-            said,
+            before,
             batch,
             item,
         }
@@ -125,56 +109,58 @@ impl State {
         requires { ⌜ self .line ≤ maxLine ⌝ }
         ensures { λ r. ⌜ r ≡ moved self stage ⌝ }
     {
-        let group = self.group;
+        let before = self.before;
         let batch = self.batch;
         let item = self.item;
-        self.onward(stage, group, self.said, batch, item)
+        self.onward(stage, before, batch, item)
     }
 
     fn opened(self, line: &[u8]) -> State
         requires { ⌜ self .line ≤ maxLine ⌝ }
         ensures { λ r. ⌜ r ≡ opened self (valuesOf BatchHeaderB (now (line .entry))) ⌝ }
     {
-        let batch = opened_batch(line);
+        let last = self.before;
         let group = group_in(line);
+        let before = last.after_header(group, value_at(line, 17, 4));
+        let batch = opened_batch(line);
         let item = no_item();
-        self.onward(Stage::Opened, group, true, batch, item)
+        self.onward(Stage::Opened, before, batch, item)
     }
 
     fn with_fixed(self) -> State
         requires line { ⌜ self .line ≤ maxLine ⌝ }
-        requires kept { ⌜ Kept self ⌝ }
+        requires limited { ⌜ Limited self ⌝ }
         ensures { λ r. ⌜ r ≡ withFixed self ⌝ }
     {
         let stage = self.stage;
-        let group = self.group;
+        let before = self.before;
         let b = self.batch;
         let item = self.item;
         let batch = fixed_one(b);
-        self.onward(stage, group, self.said, batch, item)
+        self.onward(stage, before, batch, item)
     }
 
     pub(crate) fn paid(self, t: TransactionFields) -> State
         requires line { ⌜ self .line ≤ maxLine ⌝ }
-        requires kept { ⌜ Kept self ⌝ }
+        requires limited { ⌜ Limited self ⌝ }
         requires transaction { ⌜ Bounded t ⌝ }
         ensures { λ r. ⌜ r ≡ paid self t ⌝ }
     {
-        let group = self.group;
+        let before = self.before;
         let b = self.batch;
         let batch = paid_batch(b, t);
         let item = opened_item(t);
-        self.onward(Stage::Item, group, self.said, batch, item)
+        self.onward(Stage::Item, before, batch, item)
     }
 
     fn with_item(self, item: OpenItem) -> State
         requires { ⌜ self .line ≤ maxLine ⌝ }
-        ensures { λ r. ⌜ r ≡ onward self (self .stage) (self .group) (self .said) (self .batch) item ⌝ }
+        ensures { λ r. ⌜ r ≡ onward self (self .stage) (self .before) (self .batch) item ⌝ }
     {
         let stage = self.stage;
-        let group = self.group;
+        let before = self.before;
         let batch = self.batch;
-        self.onward(stage, group, self.said, batch, item)
+        self.onward(stage, before, batch, item)
     }
 
     fn named(self, name: Name) -> State
@@ -209,17 +195,35 @@ impl State {
         requires { ⌜ self .line ≤ maxLine ⌝ }
         ensures { λ r. ⌜ r ≡ closed self ⌝ }
     {
-        let group = self.group;
-        let b = self.batch;
-        let batch = closed_batch(b);
+        let last = self.before;
+        let group = last.group;
+        let before = last.after_header(group, last.sequence);
+        let batch = Batch::empty();
         let item = no_item();
-        self.onward(Stage::Closed, group, true, batch, item)
+        self.onward(Stage::Closed, before, batch, item)
+    }
+
+    // The batch that a trailer closes, as the state before the trailer has it.
+    pub fn closing(self) -> ClosedBatch
+        ensures { λ r. ⌜ r ≡ closing self ⌝ }
+    {
+        let before = self.before;
+        let group = before.group;
+        let batch = self.batch;
+        ClosedBatch {
+            group,
+            account: batch.account,
+            sequence: before.sequence,
+            items: batch.items,
+            total: batch.total,
+            accounts: batch.accounts,
+        }
     }
 
     // The state after a line of that kind.
     pub(crate) fn after(self, k: Kind, line: &[u8]) -> State
         requires line { ⌜ self .line ≤ maxLine ⌝ }
-        requires kept { ⌜ Kept self ⌝ }
+        requires limited { ⌜ Limited self ⌝ }
         ensures { λ r. ⌜ r ≡ nextFor self k (valuesOf k (now (line .entry))) ⌝ }
     {
         let i = self.item;

@@ -3,7 +3,7 @@ use Prim.Native.Nat.{ℕ, zero, suc, _+_, _-_, _/_, _<_, _≤_, zero-le}
 use mathlib.Core.Path.{_≡_, refl, sym, ap, _∙_}
 use mathlib.Core.List.{List, [], _∷_}
 use mathlib.Core.Bool.{Bool, true, false, not, _&&_}
-use mathlib.Core.Option.{Option}
+use mathlib.Core.Option.{Option, none, some}
 use native.Mathlib.Omega.{arith}
 use borrow.Author.Needs.{needs}
 use borrow.Author.Tests.{lt-ltb, le-ltb, le-leb, lt-leb, eq-eqb, ne-eqb, leb-true, ltb-true, eqb-true}
@@ -30,10 +30,11 @@ use Rattle.field.specs.Rows.{Row, row, partAt, answerAt, firstAnswer, fieldAnsw
 use Rattle.field.specs.Leaf.{digitsOf, numericAnswer, numericOf}
 use Rattle.field.proofs.Rows.{row-next, row-none, rows-passed, of-row, of-value}
 use Rattle.record.specs.declared.Fault.{Fault}
+use Rattle.record.specs.declared.Before.{Before}
 use Rattle.record.specs.declared.Batch.{Batch}
 use Rattle.record.specs.declared.TransactionFields.{TransactionFields}
 use Rattle.record.specs.declared.TransactionRead.{TransactionRead}
-use Rattle.record.specs.Faults.{faultAt, noFault, firstFault, fieldsOf, fieldsFault, groupSaid, testsFor, maximaFor, faultOf, batchIdentificationAnswer, headerFault, textFault, maximaFault}
+use Rattle.record.specs.Faults.{faultAt, noFault, firstFault, fieldsOf, fieldsFault, knownGroup, testsFor, maximaFor, faultOf, batchIdentificationAnswer, headerFault, textFault, maximaFault}
 use Rattle.record.specs.Read.{transactionFor, refusedTransaction, takenTransaction, transactionOf}
 
 -- the last row of a chain
@@ -149,23 +150,23 @@ below h = omega arith
 -- ## A batch header
 
 -- the rows of both variants
-abbrev headerRows : Bool → Option Group → ℕ → List ℕ → List Row
-headerRows identified g before l =
-    row 6 (answerAt 6 (filled 2) (groupTests g) l)
+abbrev headerRows : Bool → Before → List ℕ → List Row
+headerRows identified p l =
+    row 6 (answerAt 6 (filled 2) (groupTests (knownGroup p)) l)
     ∷ row 8 (answerAt 8 (numeric 10) orderingTests l)
-    ∷ row 18 (answerAt 18 (numeric 4) (sequenceTests before) l)
+    ∷ row 18 (answerAt 18 (numeric 4) (sequenceTests (p .sequence)) l)
     ∷ row 22 (answerAt 22 (filled 3) (textTests EUR) l)
     ∷ row 25 (batchIdentificationAnswer identified l)
     ∷ row 41 (fieldAnswer (filler 10) [] (partAt 41 10 l))
     ∷ []
 
-header-rows : (identified : Bool) (g : Option Group) (before : ℕ) (l : List ℕ) → firstOr faultAt (headerRows identified g before l) noFault ≡ headerFault identified g before l
+header-rows : (identified : Bool) (p : Before) (l : List ℕ) → firstOr faultAt (headerRows identified p l) noFault ≡ headerFault identified p l
 unfolding fieldsFault firstFault pick
-header-rows true g before l = refl
-header-rows false g before l = refl
+header-rows true p l = refl
+header-rows false p l = refl
 
-pub header-via : {x : Fault} (identified : Bool) (g : Option Group) (before : ℕ) (l : List ℕ) → x ≡ firstOr faultAt (headerRows identified g before l) noFault → x ≡ headerFault identified g before l
-header-via identified g before l e = e ∙ header-rows identified g before l
+pub header-via : {x : Fault} (identified : Bool) (p : Before) (l : List ℕ) → x ≡ firstOr faultAt (headerRows identified p l) noFault → x ≡ headerFault identified p l
+header-via identified p l e = e ∙ header-rows identified p l
 
 -- ## A transaction
 
@@ -228,41 +229,40 @@ module _ (good : TransactionRead) (z : good .number ≡ 0) where
 abbrev good : List ℕ → TransactionRead
 good xs = record { number = 0; column = 0; read = transactionFor (fieldsOf Transaction xs) }
 
-judged : (said : Bool) (g : Group) (b : Batch) (xs : List ℕ) → faultOf said g b Transaction xs ≡ pick (eqb (transactionOf g (b .account) xs .number) 0) (maximaFault b (amount (fieldsOf Transaction xs))) (faultAt (transactionOf g (b .account) xs .column) (transactionOf g (b .account) xs .number))
+judged : (p : Before) (b : Batch) (xs : List ℕ) → faultOf p b Transaction xs ≡ pick (eqb (transactionOf (p .group) (b .account) xs .number) 0) (maximaFault b (amount (fieldsOf Transaction xs))) (faultAt (transactionOf (p .group) (b .account) xs .column) (transactionOf (p .group) (b .account) xs .number))
 unfolding faultOf maximaFault firstFault transactionOf
-judged said g b xs =
+judged p b xs =
     let x = fieldsOf Transaction xs in
-    let t = transactionTests g (b .account) x in
+    let t = transactionTests (p .group) (b .account) x in
     let k = checkRows (maximaFor b Transaction x) in
     split-rows faultAt noFault 6 (layout Transaction) t xs k ∙ by-rows (good xs) refl (firstOr faultAt k noFault) (rowsAt 6 (layout Transaction) t xs [])
 
 -- ### For users: the fields of a transaction that a call read, and the fault of its line
 
-module _ {r : TransactionRead} (g : Group) (b : Batch) (xs : List ℕ) (e : r ≡ transactionOf g (b .account) xs) where
+module _ {r : TransactionRead} (p : Before) (b : Batch) (xs : List ℕ) (e : r ≡ transactionOf (p .group) (b .account) xs) where
   read-is : r .number ≡ 0 → r ≡ good xs
   unfolding transactionOf
-  read-is z = e ∙ is-good (good xs) refl (rowsAt 6 (layout Transaction) (transactionTests g (b .account) (fieldsOf Transaction xs)) xs []) (ap (λ (t : TransactionRead). t .number) (sym e) ∙ z)
+  read-is z = e ∙ is-good (good xs) refl (rowsAt 6 (layout Transaction) (transactionTests (p .group) (b .account) (fieldsOf Transaction xs)) xs []) (ap (λ (t : TransactionRead). t .number) (sym e) ∙ z)
 
   pub transaction-read : r .number ≡ 0 → r .read ≡ transactionFor (fieldsOf Transaction xs)
   transaction-read z = ap (λ (t : TransactionRead). t .read) (read-is z)
 
-  module _ (said : Bool) where
-    judged-by : faultOf said g b Transaction xs ≡ pick (eqb (r .number) 0) (maximaFault b (amount (fieldsOf Transaction xs))) (faultAt (r .column) (r .number))
-    judged-by = rw e (judged said g b xs)
+  judged-by : faultOf p b Transaction xs ≡ pick (eqb (r .number) 0) (maximaFault b (amount (fieldsOf Transaction xs))) (faultAt (r .column) (r .number))
+  judged-by = rw e (judged p b xs)
 
-    pub transaction-refused : (r .number ≡ 0 → ⊥) → faultOf said g b Transaction xs ≡ faultAt (r .column) (r .number)
-    unfolding pick
-    transaction-refused z = judged-by ∙ rw (ne-eqb (r .number) 0 z)
+  pub transaction-refused : (r .number ≡ 0 → ⊥) → faultOf p b Transaction xs ≡ faultAt (r .column) (r .number)
+  unfolding pick
+  transaction-refused z = judged-by ∙ rw (ne-eqb (r .number) 0 z)
 
-    pub transaction-taken : r .number ≡ 0 → faultOf said g b Transaction xs ≡ maximaFault b (r .read .amount)
-    unfolding pick
-    transaction-taken z = judged-by ∙ rw (eq-eqb (r .number) 0 z) (ap (λ (t : TransactionFields). maximaFault b (t .amount)) (sym (transaction-read z)))
+  pub transaction-taken : r .number ≡ 0 → faultOf p b Transaction xs ≡ maximaFault b (r .read .amount)
+  unfolding pick
+  transaction-taken z = judged-by ∙ rw (eq-eqb (r .number) 0 z) (ap (λ (t : TransactionFields). maximaFault b (t .amount)) (sym (transaction-read z)))
 
-  pub refused-via : {x : Fault} → (r .number ≡ 0 → ⊥) → x ≡ faultAt (r .column) (r .number) → x ≡ faultOf false g b Transaction xs
-  refused-via z h = h ∙ sym (transaction-refused false z)
+  pub refused-via : {x : Fault} → (r .number ≡ 0 → ⊥) → x ≡ faultAt (r .column) (r .number) → x ≡ faultOf p b Transaction xs
+  refused-via z h = h ∙ sym (transaction-refused z)
 
-  pub taken-via : {x : Fault} → r .number ≡ 0 → x ≡ maximaFault b (r .read .amount) → x ≡ faultOf false g b Transaction xs
-  taken-via z h = h ∙ sym (transaction-taken false z)
+  pub taken-via : {x : Fault} → r .number ≡ 0 → x ≡ maximaFault b (r .read .amount) → x ≡ faultOf p b Transaction xs
+  taken-via z h = h ∙ sym (transaction-taken z)
 
 pub ruleset judgements = (refused-via, taken-via)
 
@@ -304,11 +304,11 @@ transaction-bounded g own xs e =
     (λ c n. record { amount = zero-le; payer = zero-le; beneficiary = zero-le })
     (λ z. record { amount = in-range 12 1 maxAmount _ _ _ (z .1 .0); payer = in-range 10 1 maxAccount _ _ _ (z .1 .1 .0); beneficiary = in-range 10 1 maxAccount _ _ _ (z .1 .1 .1 .0) }))
 
--- ### For users: what a batch's maxima keep
+-- ### For users: an item below a batch's maxima
 
-pub maxima-kept : (b : Batch) (n : ℕ) → maximaFault b n .number ≡ 0 → (b .items < 100000) × (b .total + n ≤ 4537802160901)
+pub below-maxima : (b : Batch) (n : ℕ) → maximaFault b n .number ≡ 0 → (b .items < 100000) × (b .total + n ≤ 4537802160901)
 unfolding maximaFault firstFault firstOr pick
-maxima-kept b n z = by (ltb (b .items) maxItems) refl (leb (b .total + n) maxTotal) refl z
+below-maxima b n z = by (ltb (b .items) maxItems) refl (leb (b .total + n) maxTotal) refl z
   where
     by : (p : Bool) → ltb (b .items) maxItems ≡ p → (q : Bool) → leb (b .total + n) maxTotal ≡ q → _≡_ {A = ℕ} (pick (eqb (pick p 0 8) 0) (pick (eqb (pick q 0 8) 0) noFault (faultAt 10 (pick q 0 8))) (faultAt 1 (pick p 0 8)) .number) 0 → (b .items < 100000) × (b .total + n ≤ 4537802160901)
     by true h true k z = (ltb-true (b .items) maxItems h, leb-true (b .total + n) maxTotal k)
@@ -335,18 +335,18 @@ is-type g NoType l e = by (wellFormed (filled 4) l) e
     by true e = absurd (omega arith)
     by false e = absurd (omega arith)
 
-module _ (said : Bool) (g : Group) (b : Batch) (xs : List ℕ) where
-  pub header-bounded : faultOf said g b BatchHeaderB xs .number ≡ 0 → sequence (fieldsOf BatchHeaderB xs) ≤ 9999
+module _ (p : Before) (b : Batch) (xs : List ℕ) where
+  pub header-bounded : faultOf p b BatchHeaderB xs .number ≡ 0 → sequence (fieldsOf BatchHeaderB xs) ≤ 9999
   unfolding faultOf firstFault
   header-bounded z = in-range 4 1 maxSequence _ _ _ (no-faults _ z .1 .1 .0)
 
-  pub identified-bounded : faultOf said g b BatchHeaderC xs .number ≡ 0 → sequence (unidentified (fieldsOf BatchHeaderC xs)) ≤ 9999
+  pub identified-bounded : faultOf p b BatchHeaderC xs .number ≡ 0 → sequence (unidentified (fieldsOf BatchHeaderC xs)) ≤ 9999
   unfolding faultOf firstFault
   identified-bounded z = in-range 4 1 maxSequence _ _ _ (no-faults _ z .1 .1 .0)
 
-  pub type-known : faultOf said g b Transaction xs .number ≡ 0 → isType (typeOf (type (fieldsOf Transaction xs))) ≡ true
+  pub type-known : faultOf p b Transaction xs .number ≡ 0 → isType (typeOf (type (fieldsOf Transaction xs))) ≡ true
   unfolding faultOf firstFault
-  type-known z = is-type g (typeOf (type (fieldsOf Transaction xs))) _ (no-faults _ z .0)
+  type-known z = is-type (p .group) (typeOf (type (fieldsOf Transaction xs))) _ (no-faults _ z .0)
 
 -- ### For users: a record's faults have numbers up to 9
 
@@ -390,25 +390,25 @@ rows-small c [] t xs k h s = s
 rows-small c (f ∷ fs) t xs k h s =
     (field-small f (t .0) (partAt c (width f) xs) (and-first (smallTests (t .0)) (smallAll fs (t .1)) h), rows-small (c + width f) fs (t .1) xs k (and-second (smallTests (t .0)) (smallAll fs (t .1)) h) s)
 
-group-small : (said : Bool) (g : Group) (t : List ℕ) → smallTests (groupTests (groupSaid said g) t) ≡ true
-group-small true g t = refl
-group-small false g t = refl
+group-small : (o : Option Group) (t : List ℕ) → smallTests (groupTests o t) ≡ true
+group-small none t = refl
+group-small (some g) t = refl
 
-small-tests : (said : Bool) (g : Group) (b : Batch) (k : Kind) (x : Fields k) → smallAll (layout k) (testsFor said g b k x) ≡ true
-small-tests said g b FileHeader x = refl
-small-tests said g b BatchHeaderB x = rw (group-small said g (group x))
-small-tests said g b BatchHeaderC x = rw (group-small said g (group (unidentified x)))
-small-tests said g b FixedDescription x = refl
-small-tests said g b OrderingParty x = refl
-small-tests said g b Transaction x = refl
-small-tests said g b NamePayer x = refl
-small-tests said g b CityPayer x = refl
-small-tests said g b PaymentReference x = refl
-small-tests said g b Description x = refl
-small-tests said g b NameBeneficiary x = refl
-small-tests said g b CityBeneficiary x = refl
-small-tests said g b BatchTrailer x = refl
-small-tests said g b FileTrailer x = refl
+small-tests : (p : Before) (b : Batch) (k : Kind) (x : Fields k) → smallAll (layout k) (testsFor p b k x) ≡ true
+small-tests p b FileHeader x = refl
+small-tests p b BatchHeaderB x = rw (group-small (knownGroup p) (group x))
+small-tests p b BatchHeaderC x = rw (group-small (knownGroup p) (group (unidentified x)))
+small-tests p b FixedDescription x = refl
+small-tests p b OrderingParty x = refl
+small-tests p b Transaction x = refl
+small-tests p b NamePayer x = refl
+small-tests p b CityPayer x = refl
+small-tests p b PaymentReference x = refl
+small-tests p b Description x = refl
+small-tests p b NameBeneficiary x = refl
+small-tests p b CityBeneficiary x = refl
+small-tests p b BatchTrailer x = refl
+small-tests p b FileTrailer x = refl
 
 small-check : (q : Bool) → pick q 0 8 ≤ 9
 unfolding pick
@@ -431,68 +431,68 @@ small-maxima b CityBeneficiary x = tt
 small-maxima b BatchTrailer x = tt
 small-maxima b FileTrailer x = tt
 
-pub fault-numbers : (said : Bool) (g : Group) (b : Batch) (k : Kind) (xs : List ℕ) → faultOf said g b k xs .number ≤ 9
+pub fault-numbers : (p : Before) (b : Batch) (k : Kind) (xs : List ℕ) → faultOf p b k xs .number ≤ 9
 unfolding faultOf firstFault
-fault-numbers said g b k xs = first-small _ (rows-small 6 (layout k) (testsFor said g b k (fieldsOf k xs)) xs (checkRows (maximaFor b k (fieldsOf k xs))) (small-tests said g b k (fieldsOf k xs)) (small-maxima b k (fieldsOf k xs)))
+fault-numbers p b k xs = first-small _ (rows-small 6 (layout k) (testsFor p b k (fieldsOf k xs)) xs (checkRows (maximaFor b k (fieldsOf k xs))) (small-tests p b k (fieldsOf k xs)) (small-maxima b k (fieldsOf k xs)))
 
 -- ## Every kind, from the call of its arm
 
-module _ {k : Kind} {x : Fault} (said : Bool) (g : Group) (b : Batch) (xs : List ℕ) where
-  at : (j : Kind) → k ≡ j → x ≡ faultOf said g b j xs → x ≡ faultOf said g b k xs
-  at j e h = h ∙ ap (λ i. faultOf said g b i xs) (sym e)
+module _ {k : Kind} {x : Fault} (p : Before) (b : Batch) (xs : List ℕ) where
+  at : (j : Kind) → k ≡ j → x ≡ faultOf p b j xs → x ≡ faultOf p b k xs
+  at j e h = h ∙ ap (λ i. faultOf p b i xs) (sym e)
 
-  pub at-file-header : k ≡ FileHeader → x ≡ fieldsFault FileHeader fileHeaderTests xs → x ≡ faultOf said g b k xs
+  pub at-file-header : k ≡ FileHeader → x ≡ fieldsFault FileHeader fileHeaderTests xs → x ≡ faultOf p b k xs
   unfolding faultOf fieldsFault
   at-file-header e h = at FileHeader e h
 
-  pub at-header-b : {i : Bool} → k ≡ BatchHeaderB → i ≡ false → x ≡ headerFault i (groupSaid said g) (b .sequence) xs → x ≡ faultOf said g b k xs
+  pub at-header-b : {i : Bool} → k ≡ BatchHeaderB → i ≡ false → x ≡ headerFault i p xs → x ≡ faultOf p b k xs
   unfolding faultOf fieldsFault
   at-header-b e f h = at BatchHeaderB e (rw f at h)
 
-  pub at-header-c : {i : Bool} → k ≡ BatchHeaderC → i ≡ true → x ≡ headerFault i (groupSaid said g) (b .sequence) xs → x ≡ faultOf said g b k xs
+  pub at-header-c : {i : Bool} → k ≡ BatchHeaderC → i ≡ true → x ≡ headerFault i p xs → x ≡ faultOf p b k xs
   unfolding faultOf fieldsFault
   at-header-c e f h = at BatchHeaderC e (rw f at h)
 
-  pub at-fixed : k ≡ FixedDescription → x ≡ textFault 32 37 13 38 xs → x ≡ faultOf said g b k xs
+  pub at-fixed : k ≡ FixedDescription → x ≡ textFault 32 37 13 38 xs → x ≡ faultOf p b k xs
   unfolding faultOf textFault
   at-fixed e h = at FixedDescription e h
 
-  pub at-ordering : k ≡ OrderingParty → x ≡ fieldsFault OrderingParty (orderingPartyTests g) xs → x ≡ faultOf said g b k xs
+  pub at-ordering : k ≡ OrderingParty → x ≡ fieldsFault OrderingParty (orderingPartyTests (p .group)) xs → x ≡ faultOf p b k xs
   unfolding faultOf fieldsFault
   at-ordering e h = at OrderingParty e h
 
-  pub at-transaction : k ≡ Transaction → x ≡ faultOf false g b Transaction xs → x ≡ faultOf said g b k xs
+  pub at-transaction : k ≡ Transaction → x ≡ faultOf p b Transaction xs → x ≡ faultOf p b k xs
   unfolding faultOf
   at-transaction e h = at Transaction e h
 
-  pub at-name-payer : k ≡ NamePayer → x ≡ textFault 35 40 10 41 xs → x ≡ faultOf said g b k xs
+  pub at-name-payer : k ≡ NamePayer → x ≡ textFault 35 40 10 41 xs → x ≡ faultOf p b k xs
   unfolding faultOf textFault
   at-name-payer e h = at NamePayer e h
 
-  pub at-city-payer : k ≡ CityPayer → x ≡ fieldsFault CityPayer (λ x. untested (layout CityPayer)) xs → x ≡ faultOf said g b k xs
+  pub at-city-payer : k ≡ CityPayer → x ≡ fieldsFault CityPayer (λ x. untested (layout CityPayer)) xs → x ≡ faultOf p b k xs
   unfolding faultOf fieldsFault
   at-city-payer e h = at CityPayer e h
 
-  pub at-reference : k ≡ PaymentReference → x ≡ textFault 16 21 29 22 xs → x ≡ faultOf said g b k xs
+  pub at-reference : k ≡ PaymentReference → x ≡ textFault 16 21 29 22 xs → x ≡ faultOf p b k xs
   unfolding faultOf textFault
   at-reference e h = at PaymentReference e h
 
-  pub at-description : k ≡ Description → x ≡ textFault 32 37 13 38 xs → x ≡ faultOf said g b k xs
+  pub at-description : k ≡ Description → x ≡ textFault 32 37 13 38 xs → x ≡ faultOf p b k xs
   unfolding faultOf textFault
   at-description e h = at Description e h
 
-  pub at-name-beneficiary : k ≡ NameBeneficiary → x ≡ textFault 35 40 10 41 xs → x ≡ faultOf said g b k xs
+  pub at-name-beneficiary : k ≡ NameBeneficiary → x ≡ textFault 35 40 10 41 xs → x ≡ faultOf p b k xs
   unfolding faultOf textFault
   at-name-beneficiary e h = at NameBeneficiary e h
 
-  pub at-city-beneficiary : k ≡ CityBeneficiary → x ≡ fieldsFault CityPayer (λ x. untested (layout CityPayer)) xs → x ≡ faultOf said g b k xs
+  pub at-city-beneficiary : k ≡ CityBeneficiary → x ≡ fieldsFault CityPayer (λ x. untested (layout CityPayer)) xs → x ≡ faultOf p b k xs
   unfolding faultOf fieldsFault
   at-city-beneficiary e h = at CityBeneficiary e h
 
-  pub at-batch-trailer : k ≡ BatchTrailer → x ≡ fieldsFault BatchTrailer (batchTrailerTests (b .total) (b .accounts) (b .items)) xs → x ≡ faultOf said g b k xs
+  pub at-batch-trailer : k ≡ BatchTrailer → x ≡ fieldsFault BatchTrailer (batchTrailerTests (b .total) (b .accounts) (b .items)) xs → x ≡ faultOf p b k xs
   unfolding faultOf fieldsFault
   at-batch-trailer e h = at BatchTrailer e h
 
-  pub at-file-trailer : k ≡ FileTrailer → x ≡ fieldsFault FileTrailer (λ x. untested (layout FileTrailer)) xs → x ≡ faultOf said g b k xs
+  pub at-file-trailer : k ≡ FileTrailer → x ≡ fieldsFault FileTrailer (λ x. untested (layout FileTrailer)) xs → x ≡ faultOf p b k xs
   unfolding faultOf fieldsFault
   at-file-trailer e h = at FileTrailer e h

@@ -29,6 +29,7 @@ use Rattle.field.proofs.Numerics.{digits-are}
 use Rattle.record.specs.Faults.{faultAt, noFault, firstFault, fieldsOf, testsFor, maximaFor, faultOf}
 use Rattle.record.specs.Read.{transactionFor, itemOf, recordFor, noText, padded, textPart, textFor, valueIn, valuesAt, valuesOf, headerFor}
 use Rattle.record.specs.declared.Fault.{Fault}
+use Rattle.record.specs.declared.Before.{Before}
 use Rattle.record.specs.declared.Batch.{Batch}
 use Rattle.record.specs.declared.read.Part.{Part}
 use Rattle.record.specs.declared.TransactionFields.{TransactionFields}
@@ -133,9 +134,9 @@ formed c (f ∷ fs) t xs k h z = by (eqb n 0) refl (formed (c + width f) fs (t .
 pub narrow-layout : (k : Kind) → narrow (layout k) ≡ true
 narrow-layout = every (λ k. narrow (layout k) ≡ true) refl refl refl refl refl refl refl refl refl refl refl refl refl refl
 
-pub valued : (said : Bool) (g : Group) (b : Batch) (k : Kind) (xs : List ℕ) → faultOf said g b k xs .number ≡ 0 → valuesOf k xs ≡ fieldsOf k xs
+pub valued : (p : Before) (b : Batch) (k : Kind) (xs : List ℕ) → faultOf p b k xs .number ≡ 0 → valuesOf k xs ≡ fieldsOf k xs
 unfolding faultOf firstFault
-valued said g b k xs z = formed 6 (layout k) (testsFor said g b k (fieldsOf k xs)) xs (checkRows (maximaFor b k (fieldsOf k xs))) (narrow-layout k) z
+valued p b k xs z = formed 6 (layout k) (testsFor p b k (fieldsOf k xs)) xs (checkRows (maximaFor b k (fieldsOf k xs))) (narrow-layout k) z
 
 -- ## For users: the value of a field is small
 

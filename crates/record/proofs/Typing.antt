@@ -11,7 +11,8 @@ use Rattle.format.specs.declared.TransactionType.{TransactionType}
 use Rattle.format.specs.declared.TypeRead.{TypeRead}
 use Rattle.format.specs.declared.TypeRead.the-variants.{Of, NoType}
 use Rattle.field.specs.Rows.{firstAnswer}
-use Rattle.record.specs.Faults.{groupSaid}
+use Rattle.record.specs.declared.Before.{Before}
+use Rattle.record.specs.Faults.{knownGroup}
 
 -- an arm of a function by cases
 pub of-case : {A B : Type 0} (f : A → B) {t u : A} {x : B} → t ≡ u → x ≡ f u → x ≡ f t
@@ -22,33 +23,33 @@ of-case f e h = rw e h
 pub same-case : {a b g h : Group} {x : Bool} → a ≡ g → b ≡ h → x ≡ sameGroup g h → x ≡ sameGroup a b
 same-case e f h = rw (e, f) h
 
--- a group, and the one so far where that is said
-abbrev groupAnswer : Bool → Group → List ℕ → ℕ
-groupAnswer said g l = firstAnswer (groupTests (groupSaid said g) l)
+-- a group, and the one before where that is known
+abbrev groupAnswer : Before → List ℕ → ℕ
+groupAnswer b l = firstAnswer (groupTests (knownGroup b) l)
 
 module _ {p : List ℕ} {a : Bool} (l : List ℕ) (d : p ≡ l) (e : a ≡ isGroup p) where
   is-group : {v : Bool} → a ≡ v → isGroup l ≡ v
   is-group h = rw (← d) (sym e ∙ h)
 
-  module _ (said : Bool) (g : Group) where
-    pub group-wrong : a ≡ false → 5 ≡ groupAnswer said g l
+  module _ (b : Before) where
+    pub group-wrong : a ≡ false → 5 ≡ groupAnswer b l
     unfolding pick
     group-wrong h = rw (is-group h)
 
     module _ (h : a ≡ true) where
-      pub group-free : said ≡ false → 0 ≡ groupAnswer said g l
+      pub group-free : b .known ≡ false → 0 ≡ groupAnswer b l
       unfolding pick
       group-free k = rw (is-group h, k)
 
-      module _ {b : Bool} {t : List ℕ} (k : said ≡ true) (q : t ≡ groupText g) (f : b ≡ same p t) where
-        is-text : {v : Bool} → b ≡ v → same l (groupText g) ≡ v
+      module _ {m : Bool} {t : List ℕ} (k : b .known ≡ true) (q : t ≡ groupText (b .group)) (f : m ≡ same p t) where
+        is-text : {v : Bool} → m ≡ v → same l (groupText (b .group)) ≡ v
         is-text u = rw (← d, ← q) (sym f ∙ u)
 
-        pub group-right : b ≡ true → 0 ≡ groupAnswer said g l
+        pub group-right : m ≡ true → 0 ≡ groupAnswer b l
         unfolding pick
         group-right u = rw (is-group h, k, is-text u)
 
-        pub group-other : b ≡ false → 7 ≡ groupAnswer said g l
+        pub group-other : m ≡ false → 7 ≡ groupAnswer b l
         unfolding pick
         group-other u = rw (is-group h, k, is-text u)
 

@@ -10,9 +10,11 @@ use Rattle.format.specs.Tests.{Tests, untested, Check, fileHeaderTests, batchHe
 use Rattle.format.specs.declared.Kind.{Kind}
 use Rattle.format.specs.declared.Kind.the-variants.{FileHeader, BatchHeaderB, BatchHeaderC, FixedDescription, OrderingParty, Transaction, NamePayer, CityPayer, PaymentReference, Description, NameBeneficiary, CityBeneficiary, BatchTrailer, FileTrailer}
 use Rattle.format.specs.declared.Group.{Group}
+use Rattle.format.specs.declared.Group.the-variants.{Payments}
 use Rattle.field.specs.Rows.{Row, row, partAt, fieldAnswer, rowsAt, checkRows, fieldsAt, firstOr}
 use Rattle.format.specs.Fields.{filled, filler}
 use Rattle.record.specs.declared.Fault.{Fault}
+use Rattle.record.specs.declared.Before.{Before}
 use Rattle.record.specs.declared.Batch.{Batch}
 
 abbrev pub faultAt : ℕ → ℕ → Fault
@@ -24,8 +26,15 @@ noFault = faultAt 0 0
 unfoldable pub firstFault : List Row → Fault
 firstFault rows = firstOr faultAt rows noFault
 
+abbrev pub nothingBefore : Before
+nothingBefore = record { group = Payments; known = false; sequence = 0 }
+
+-- after a batch header of a group and a number
+abbrev pub afterHeader : Before → Group → ℕ → Before
+afterHeader p g n = record { group = g; known = true; sequence = n }
+
 abbrev pub emptyBatch : Batch
-emptyBatch = record { account = 0; sequence = 0; items = 0; total = 0; accounts = 0; fixed = 0 }
+emptyBatch = record { account = 0; items = 0; total = 0; accounts = 0; fixed = 0 }
 
 -- the fields of a line
 abbrev pub fieldsOf : (k : Kind) → List ℕ → Fields k
@@ -35,26 +44,25 @@ fieldsOf k line = fieldsAt 6 (layout k) line
 unfoldable pub fieldsFault : (k : Kind) → (Fields k → Tests (layout k)) → List ℕ → Fault
 fieldsFault k tests line = firstFault (rowsAt 6 (layout k) (tests (fieldsOf k line)) line [])
 
--- the group so far, where it is said
-abbrev pub groupSaid : Bool → Group → Option Group
-groupSaid true g = some g
-groupSaid false g = none
+-- the group before, where it is known
+abbrev pub knownGroup : Before → Option Group
+knownGroup p = pick (p .known) (some (p .group)) none
 
-abbrev pub testsFor : Bool → Group → Batch → (k : Kind) → Fields k → Tests (layout k)
-testsFor said g b FileHeader x = fileHeaderTests x
-testsFor said g b BatchHeaderB x = batchHeaderTests (groupSaid said g) (b .sequence) x
-testsFor said g b BatchHeaderC x = batchHeaderTests (groupSaid said g) (b .sequence) (unidentified x)
-testsFor said g b FixedDescription x = untested (layout FixedDescription)
-testsFor said g b OrderingParty x = orderingPartyTests g x
-testsFor said g b Transaction x = transactionTests g (b .account) x
-testsFor said g b NamePayer x = untested (layout NamePayer)
-testsFor said g b CityPayer x = untested (layout CityPayer)
-testsFor said g b PaymentReference x = untested (layout PaymentReference)
-testsFor said g b Description x = untested (layout Description)
-testsFor said g b NameBeneficiary x = untested (layout NameBeneficiary)
-testsFor said g b CityBeneficiary x = untested (layout CityBeneficiary)
-testsFor said g b BatchTrailer x = batchTrailerTests (b .total) (b .accounts) (b .items) x
-testsFor said g b FileTrailer x = untested (layout FileTrailer)
+abbrev pub testsFor : Before → Batch → (k : Kind) → Fields k → Tests (layout k)
+testsFor p b FileHeader x = fileHeaderTests x
+testsFor p b BatchHeaderB x = batchHeaderTests (knownGroup p) (p .sequence) x
+testsFor p b BatchHeaderC x = batchHeaderTests (knownGroup p) (p .sequence) (unidentified x)
+testsFor p b FixedDescription x = untested (layout FixedDescription)
+testsFor p b OrderingParty x = orderingPartyTests (p .group) x
+testsFor p b Transaction x = transactionTests (p .group) (b .account) x
+testsFor p b NamePayer x = untested (layout NamePayer)
+testsFor p b CityPayer x = untested (layout CityPayer)
+testsFor p b PaymentReference x = untested (layout PaymentReference)
+testsFor p b Description x = untested (layout Description)
+testsFor p b NameBeneficiary x = untested (layout NameBeneficiary)
+testsFor p b CityBeneficiary x = untested (layout CityBeneficiary)
+testsFor p b BatchTrailer x = batchTrailerTests (b .total) (b .accounts) (b .items) x
+testsFor p b FileTrailer x = untested (layout FileTrailer)
 
 abbrev pub maximaFor : Batch → (k : Kind) → Fields k → List Check
 maximaFor b FileHeader x = []
@@ -72,15 +80,15 @@ maximaFor b CityBeneficiary x = []
 maximaFor b BatchTrailer x = []
 maximaFor b FileTrailer x = []
 
--- the first fault of a line of a kind, after a batch so far and the group
-unfoldable pub faultOf : Bool → Group → Batch → (k : Kind) → List ℕ → Fault
-faultOf said g b k line =
-    firstFault (rowsAt 6 (layout k) (testsFor said g b k (fieldsOf k line)) line (checkRows (maximaFor b k (fieldsOf k line))))
+-- the first fault of a line of a kind, in a batch so far
+unfoldable pub faultOf : Before → Batch → (k : Kind) → List ℕ → Fault
+faultOf p b k line =
+    firstFault (rowsAt 6 (layout k) (testsFor p b k (fieldsOf k line)) line (checkRows (maximaFor b k (fieldsOf k line))))
 
 -- the same for both variants of a batch header: C is identified
-abbrev pub headerFault : Bool → Option Group → ℕ → List ℕ → Fault
-headerFault true g before line = fieldsFault BatchHeaderC (λ x. batchHeaderTests g before (unidentified x)) line
-headerFault false g before line = fieldsFault BatchHeaderB (batchHeaderTests g before) line
+abbrev pub headerFault : Bool → Before → List ℕ → Fault
+headerFault true p line = fieldsFault BatchHeaderC (λ x. batchHeaderTests (knownGroup p) (p .sequence) (unidentified x)) line
+headerFault false p line = fieldsFault BatchHeaderB (batchHeaderTests (knownGroup p) (p .sequence)) line
 
 -- the batch identification: filled for variant C, blank for B
 abbrev pub batchIdentificationAnswer : Bool → List ℕ → ℕ

@@ -1,6 +1,5 @@
 // What is wrong in a record, field by field from the left. The columns and widths are those of 01's record table.
 ghost use mathlib.Core.Path.{_≡_};
-ghost use mathlib.Core.Bool.{false};
 ghost use mathlib.Core.List.{[], _∷_};
 ghost use Rattle.format.specs.Fields.{filled};
 ghost use Rattle.format.specs.Records.{layout};
@@ -14,9 +13,10 @@ ghost use Rattle.format.specs.declared.Group.the-variants.{Payments, Debits};
 ghost use Rattle.field.specs.Rows.{row, partAt, answerAt};
 ghost use Rattle.field.specs.Leaf.{numericAnswer, numericOf};
 ghost use Rattle.record.specs.Faults.{faultAt, firstFault, fieldsFault, textFault, maximaFault, faultOf};
-ghost use Rattle.record.specs.Faults.{groupSaid, batchIdentificationAnswer, headerFault};
+ghost use Rattle.record.specs.Faults.{batchIdentificationAnswer, headerFault};
 ghost use Rattle.record.specs.Read.{refusedTransaction, takenTransaction, transactionOf};
 use crate::Batch;
+use crate::Before;
 use crate::Fault;
 use crate::Transaction;
 use crate::TransactionFields;
@@ -140,10 +140,10 @@ fn batch_identification_answer(line: &[u8], identified: bool) -> u8
     }
 }
 
-fn batch_header(line: &[u8], identified: bool, said: bool, group: Group, before: u64) -> Fault
-    ensures { λ r. ⌜ r ≡ headerFault identified (groupSaid said group) before (now (line .entry)) ⌝ }
+fn batch_header(line: &[u8], identified: bool, before: Before) -> Fault
+    ensures { λ r. ⌜ r ≡ headerFault identified before (now (line .entry)) ⌝ }
 {
-    let g = group_answer(line, said, group);
+    let g = group_answer(line, before);
     if g != 0 {
         return fault(g, 6);
     }
@@ -151,7 +151,7 @@ fn batch_header(line: &[u8], identified: bool, said: bool, group: Group, before:
     if account.number != 0 {
         return fault(account.number, 8);
     }
-    let sequence = sequence_answer(line, before);
+    let sequence = sequence_answer(line, before.sequence);
     if sequence != 0 {
         return fault(sequence, 18);
     }
@@ -331,9 +331,10 @@ pub fn maxima_fault(batch: Batch, next: u64) -> Fault
     fault(0, 0)
 }
 
-fn transaction_fault(line: &[u8], group: Group, batch: Batch) -> Fault
-    ensures { λ r. ⌜ r ≡ faultOf false group batch kinds.Transaction (now (line .entry)) ⌝ }
+fn transaction_fault(line: &[u8], before: Before, batch: Batch) -> Fault
+    ensures { λ r. ⌜ r ≡ faultOf before batch kinds.Transaction (now (line .entry)) ⌝ }
 {
+    let group = before.group;
     let r = transaction_in(line, group, batch.account);
     if r.number != 0 {
         return fault(r.number, r.column);
@@ -384,17 +385,18 @@ fn file_trailer(line: &[u8]) -> Fault
     last(filler_answer(line, 5, 45), 6)
 }
 
-// The first fault of a line of that kind, after a batch so far and the group, where it is said.
-pub fn fault_in(kind: Kind, line: &[u8], said: bool, group: Group, batch: Batch) -> Fault
-    ensures { λ r. ⌜ r ≡ faultOf said group batch kind (now (line .entry)) ⌝ }
+// The first fault of a line of that kind, in a batch so far.
+pub fn fault_in(kind: Kind, line: &[u8], before: Before, batch: Batch) -> Fault
+    ensures { λ r. ⌜ r ≡ faultOf before batch kind (now (line .entry)) ⌝ }
 {
+    let group = before.group;
     match kind {
         Kind::FileHeader => file_header(line),
-        Kind::BatchHeaderB => batch_header(line, false, said, group, batch.sequence),
-        Kind::BatchHeaderC => batch_header(line, true, said, group, batch.sequence),
+        Kind::BatchHeaderB => batch_header(line, false, before),
+        Kind::BatchHeaderC => batch_header(line, true, before),
         Kind::FixedDescription => text(line, 32, 37, 13, 38),
         Kind::OrderingParty => ordering_party(line, group),
-        Kind::Transaction => transaction_fault(line, group, batch),
+        Kind::Transaction => transaction_fault(line, before, batch),
         Kind::NamePayer => text(line, 35, 40, 10, 41),
         Kind::CityPayer => city(line),
         Kind::PaymentReference => text(line, 16, 21, 29, 22),

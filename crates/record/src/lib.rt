@@ -1,6 +1,6 @@
 // Records of a line, without the reading state: their kind, what is wrong in them from the left, and their fields.
 ghost use mathlib.Core.Path.{_≡_};
-ghost use Rattle.record.specs.Faults.{emptyBatch};
+ghost use Rattle.record.specs.Faults.{nothingBefore, afterHeader, emptyBatch};
 use format::Group;
 use format::TransactionType;
 use format::TypeRead;
@@ -16,10 +16,39 @@ pub struct Fault {
     pub column: u8,
 }
 
-// A batch so far: what its header said, what its items come to, and how many fixed descriptions it has.
+// What crosses batches: the group and whether it is known yet, and the number of the last batch header, 0 for none.
+pub struct Before {
+    pub group: Group,
+    pub known: bool,
+    pub sequence: u64,
+}
+
+impl Before {
+    pub fn nothing() -> Before
+        ensures { λ r. ⌜ r ≡ nothingBefore ⌝ }
+    {
+        Before {
+            group: Group::Payments,
+            known: false,
+            sequence: 0,
+        }
+    }
+
+    // After a batch header of that group and number.
+    pub fn after_header(self, group: Group, sequence: u64) -> Before
+        ensures { λ r. ⌜ r ≡ afterHeader self group sequence ⌝ }
+    {
+        Before {
+            group,
+            known: true,
+            sequence,
+        }
+    }
+}
+
+// A batch so far: its header's account, what its items come to, and how many fixed descriptions it has.
 pub struct Batch {
     pub account: u64,
-    pub sequence: u64,
     pub items: u64,
     pub total: u64,
     pub accounts: u64,
@@ -40,13 +69,22 @@ impl Batch {
     {
         Batch {
             account: 0,
-            sequence: 0,
             items: 0,
             total: 0,
             accounts: 0,
             fixed: 0,
         }
     }
+}
+
+// A batch as its trailer closes it.
+pub struct ClosedBatch {
+    pub group: Group,
+    pub account: u64,
+    pub sequence: u64,
+    pub items: u64,
+    pub total: u64,
+    pub accounts: u64,
 }
 
 pub struct Transaction {

@@ -5,7 +5,8 @@ ghost use Rattle.format.specs.Rules.{groupText, isGroup, groupOf, sameGroup};
 ghost use Rattle.format.specs.Rules.{typeText, typeOf, typeGroup, isUnchecked, needsName};
 ghost use Rattle.format.specs.Tests.{groupTests, typeTests};
 ghost use Rattle.field.specs.Rows.{partAt, answerAt, firstAnswer, fieldAnswer};
-ghost use Rattle.record.specs.Faults.{groupSaid};
+ghost use Rattle.record.specs.Faults.{knownGroup};
+use crate::Before;
 use field::bytes::is_same;
 use field::bytes::part;
 use field::texts::filled_answer;
@@ -57,9 +58,9 @@ pub fn group_text(group: Group) -> [u8; 2]
     }
 }
 
-// A group, and the one so far where that is said.
-pub(crate) fn group_answer(line: &[u8], said: bool, group: Group) -> u8
-    ensures { λ r. ⌜ r ≡ answerAt 6 (filled 2) (groupTests (groupSaid said group)) (now (line .entry)) ⌝ }
+// A group, and the one before where that is known.
+pub(crate) fn group_answer(line: &[u8], before: Before) -> u8
+    ensures { λ r. ⌜ r ≡ answerAt 6 (filled 2) (groupTests (knownGroup before)) (now (line .entry)) ⌝ }
 {
     let f = filled_answer(line, 5, 2);
     if f != 0 {
@@ -67,7 +68,8 @@ pub(crate) fn group_answer(line: &[u8], said: bool, group: Group) -> u8
     }
     let s = part(line, 5, 2);
     if is_group(s) {
-        if said {
+        if before.known {
+            let group = before.group;
             if is_same(s, &group_text(group)) {
                 0
             } else {

@@ -17,16 +17,16 @@ use Rattle.format.specs.Rules.{typeOf, isType}
 use Rattle.format.specs.declared.Kind.{Kind}
 use Rattle.format.specs.declared.Kind.the-variants.{FileHeader, BatchHeaderB, BatchHeaderC, FixedDescription, OrderingParty, Transaction, NamePayer, CityPayer, PaymentReference, Description, NameBeneficiary, CityBeneficiary, BatchTrailer, FileTrailer}
 use Rattle.format.specs.declared.Code.the-variants.{Of}
-use Rattle.format.specs.declared.Group.{Group}
 use Rattle.format.specs.declared.TypeRead.{TypeRead}
 use Rattle.format.specs.declared.TypeRead.the-variants as types
 use Rattle.format.proofs.ByRows.{rows-line}
 use Rattle.field.proofs.Putting.{placed-front}
 use Rattle.record.specs.Faults.{fieldsOf, faultOf}
 use Rattle.record.specs.Read.{itemOf, recordFor}
+use Rattle.record.specs.declared.Before.{Before}
 use Rattle.record.specs.declared.Batch.{Batch}
 use Rattle.record.proofs.Faulting.{type-known}
-use Rattle.reading.specs.State.{startState, isKept, within}
+use Rattle.reading.specs.State.{startState, isLimited, within}
 use Rattle.reading.specs.Step.{nextFor, refused, taken, isDone, judgedFirst, nothingRead, readBy, endedAt, refusalLine, stepAt}
 use Rattle.reading.specs.Check.{linesBy, linesOf, answerOf, answerBy, checkOf, restOf}
 use Rattle.reading.specs.declared.Name.the-variants.{Unwanted}
@@ -164,14 +164,14 @@ abbrev judged : List ℕ → Judged
 judged file = linesBy (refused startState 0 0) (rows file)
 
 ended-file : (file : List ℕ) → checkOf file .number ≡ 0 → Ended (judged file)
-unfolding checkOf restOf linesOf within isKept pick
+unfolding checkOf restOf linesOf within isLimited pick
 ended-file file z = ends (judged file) z
 
 all-read : (file : List ℕ) → checkOf file .number ≡ 0 → Read startState file (rows file) (judged file .next)
 all-read file z = all-taken (refused startState 0 0) 0 file (ended-file file z .number)
 
 pub accepted-again : (file : List ℕ) → checkOf file .number ≡ 0 → checkOf (withoutCities file) .number ≡ 0
-unfolding checkOf restOf linesOf within isKept pick withoutCities
+unfolding checkOf restOf linesOf within isLimited pick withoutCities
 accepted-again file z =
     let p = follows (all-read file z) (refused startState 0 0) (record { number = refl; next = start-behind }) in
     ended-zero (judged (keptOf (rows file))) (ended-behind (judged file) (judged (keptOf (rows file))) (ended-file file z) p)
@@ -213,22 +213,22 @@ unfolding is-some
 item-entry (types.Of y) n p b h = refl
 item-entry types.NoType n p b h = absurd (true≢false (sym h))
 
-has-entry : (said : Bool) (g : Group) (b : Batch) (k : Kind) (l : List ℕ) → faultOf said g b k l .number ≡ 0 → is-some (entryOf (recordFor k (fieldsOf k l))) ≡ not (isCityKind k)
+has-entry : (p : Before) (b : Batch) (k : Kind) (l : List ℕ) → faultOf p b k l .number ≡ 0 → is-some (entryOf (recordFor k (fieldsOf k l))) ≡ not (isCityKind k)
 unfolding is-some
-has-entry said g b FileHeader l f = refl
-has-entry said g b BatchHeaderB l f = refl
-has-entry said g b BatchHeaderC l f = refl
-has-entry said g b FixedDescription l f = refl
-has-entry said g b OrderingParty l f = refl
-has-entry said g b Transaction l f = let x = fieldsOf Transaction l in item-entry (typeOf (type x)) (amount x) (payer x) (beneficiary x) (type-known said g b l f)
-has-entry said g b NamePayer l f = refl
-has-entry said g b CityPayer l f = refl
-has-entry said g b PaymentReference l f = refl
-has-entry said g b Description l f = refl
-has-entry said g b NameBeneficiary l f = refl
-has-entry said g b CityBeneficiary l f = refl
-has-entry said g b BatchTrailer l f = refl
-has-entry said g b FileTrailer l f = refl
+has-entry p b FileHeader l f = refl
+has-entry p b BatchHeaderB l f = refl
+has-entry p b BatchHeaderC l f = refl
+has-entry p b FixedDescription l f = refl
+has-entry p b OrderingParty l f = refl
+has-entry p b Transaction l f = let x = fieldsOf Transaction l in item-entry (typeOf (type x)) (amount x) (payer x) (beneficiary x) (type-known p b l f)
+has-entry p b NamePayer l f = refl
+has-entry p b CityPayer l f = refl
+has-entry p b PaymentReference l f = refl
+has-entry p b Description l f = refl
+has-entry p b NameBeneficiary l f = refl
+has-entry p b CityBeneficiary l f = refl
+has-entry p b BatchTrailer l f = refl
+has-entry p b FileTrailer l f = refl
 
 abbrev readAs : State → (k : Kind) → List ℕ → LineRead
 readAs s k xs = readBy (take 50 xs) (Of k) (taken k (nextBy s k xs))
@@ -253,7 +253,7 @@ module _ {s : State} {x : ℕ} {xs : List ℕ} (tk : Taken s (x ∷ xs)) (w : St
     read-w = step-as w x xs (tk .kind) (taken-too b tk c)
 
     entry : (e : Entry) × (entryOf (recordFor (tk .kind) (fieldsOf (tk .kind) (take 50 (x ∷ xs)))) ≡ some e)
-    entry = the-entry (entryOf (recordFor (tk .kind) (fieldsOf (tk .kind) (take 50 (x ∷ xs))))) (has-entry (s .said) (s .group) (s .batch) (tk .kind) (take 50 (x ∷ xs)) (tk .faultless) ∙ ap not c)
+    entry = the-entry (entryOf (recordFor (tk .kind) (fieldsOf (tk .kind) (take 50 (x ∷ xs))))) (has-entry (s .before) (s .batch) (tk .kind) (take 50 (x ∷ xs)) (tk .faultless) ∙ ap not c)
 
     line-is : take 52 (x ∷ xs) ≡ lineFor w (entry .0) (stepAt s (x ∷ xs) .text)
     line-is =
@@ -273,7 +273,7 @@ module _ {s : State} {x : ℕ} {xs : List ℕ} (tk : Taken s (x ∷ xs)) (w : St
   unfolding pick
   line-written true e =
       let c = sym (city-kind (x ∷ xs) tk) ∙ e in
-      let o = no-entry (entryOf (recordFor (tk .kind) (fieldsOf (tk .kind) (take 50 (x ∷ xs))))) (has-entry (s .said) (s .group) (s .batch) (tk .kind) (take 50 (x ∷ xs)) (tk .faultless) ∙ ap not c) in
+      let o = no-entry (entryOf (recordFor (tk .kind) (fieldsOf (tk .kind) (take 50 (x ∷ xs))))) (has-entry (s .before) (s .batch) (tk .kind) (take 50 (x ∷ xs)) (tk .faultless) ∙ ap not c) in
       city (ap (λ (r : LineRead). r .answer) read-s) (ap (λ (r : LineRead). entryOf (r .read)) read-s ∙ o) (after w (behind-city b tk c))
   line-written false e = kept-written (sym (city-kind (x ∷ xs) tk) ∙ e)
 

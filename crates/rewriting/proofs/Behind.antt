@@ -21,7 +21,7 @@ use Rattle.record.specs.Kinds.{codeOf}
 use Rattle.record.specs.Faults.{fieldsOf, faultOf}
 use Rattle.record.specs.Read.{transactionFor}
 use Rattle.record.proofs.Coding.{code-is}
-use Rattle.reading.specs.State.{isKept, within}
+use Rattle.reading.specs.State.{isLimited, within}
 use Rattle.reading.specs.Order.{isStage, isName, mayEnd, mayPay, mayName, textsBy, mayText, mayRefer, mayDescribe, allowed}
 use Rattle.reading.specs.Step.{nameIf, afterText, nextFor, taken, judgedAs, judgedKind, judgedLine, isWhole, isDone, judgedFirst}
 use Rattle.reading.specs.declared.Stage.the-variants.{Item}
@@ -61,8 +61,7 @@ behind s l n =
     record {
       line = l;
       stage = s .stage;
-      group = s .group;
-      said = s .said;
+      before = s .before;
       batch = s .batch;
       item = record { name = n; reference = s .item .reference; descriptions = s .item .descriptions };
     }
@@ -78,11 +77,11 @@ abbrev by : (s : State) (l : ℕ) (n : Name) → l ≤ s .line → NameLike (s .
 by s l n h e = record { line = l; name = n; is = refl; small = h; like = e }
 
 pub within-behind : (s : State) (l : ℕ) (n : Name) → l ≤ s .line → within s ≡ true → within (behind s l n) ≡ true
-unfolding within isKept
+unfolding within isLimited
 within-behind s l n h w =
     let m = within-line s w in
-    let k : isKept s ≡ true = and-second (leb (s .line) 6999369995) (isKept s) w in
-    ap (λ q. q && isKept (behind s l n)) (le-leb l 6999369995 (omega arith)) ∙ k
+    let k : isLimited s ≡ true = and-second (leb (s .line) 6999369995) (isLimited s) w in
+    ap (λ q. q && isLimited (behind s l n)) (le-leb l 6999369995 (omega arith)) ∙ k
 
 -- ## What may stand
 
@@ -101,8 +100,8 @@ allowed-past s l OrderingParty c = refl
 allowed-past s l Transaction c = refl
 allowed-past s l NamePayer c = refl
 allowed-past s l CityPayer c = absurd (true≢false c)
-allowed-past s l PaymentReference c = ap (λ q. (isStage (s .stage) Item && q) && (not (s .item .reference) && eqb (s .item .descriptions) 0)) (texts-like (s .group))
-allowed-past s l Description c = ap (λ q. (isStage (s .stage) Item && q) && ltb (s .item .descriptions) (mostDescriptions (s .item .reference))) (texts-like (s .group))
+allowed-past s l PaymentReference c = ap (λ q. (isStage (s .stage) Item && q) && (not (s .item .reference) && eqb (s .item .descriptions) 0)) (texts-like (s .before .group))
+allowed-past s l Description c = ap (λ q. (isStage (s .stage) Item && q) && ltb (s .item .descriptions) (mostDescriptions (s .item .reference))) (texts-like (s .before .group))
 allowed-past s l NameBeneficiary c = refl
 allowed-past s l CityBeneficiary c = absurd (true≢false c)
 allowed-past s l BatchTrailer c = refl
@@ -173,13 +172,13 @@ city-behind s l n h e OrderingParty c a x = absurd (true≢false (sym c))
 city-behind s l n h e Transaction c a x = absurd (true≢false (sym c))
 city-behind s l n h e NamePayer c a x = absurd (true≢false (sym c))
 city-behind s l n h e CityPayer c a x =
-    let r = read-name (s .item .name) (and-second (sameGroup (s .group) Debits) _ (and-second (isStage (s .stage) Item) _ a)) in
+    let r = read-name (s .item .name) (and-second (sameGroup (s .before .group) Debits) _ (and-second (isStage (s .stage) Item) _ a)) in
     by (nextFor s CityPayer x) l n (omega arith) (unread refl (still-read e r))
 city-behind s l n h e PaymentReference c a x = absurd (true≢false (sym c))
 city-behind s l n h e Description c a x = absurd (true≢false (sym c))
 city-behind s l n h e NameBeneficiary c a x = absurd (true≢false (sym c))
 city-behind s l n h e CityBeneficiary c a x =
-    let r = read-name (s .item .name) (and-second (sameGroup (s .group) Payments) _ (and-second (isStage (s .stage) Item) _ a)) in
+    let r = read-name (s .item .name) (and-second (sameGroup (s .before .group) Payments) _ (and-second (isStage (s .stage) Item) _ a)) in
     by (nextFor s CityBeneficiary x) l n (omega arith) (unread refl (still-read e r))
 city-behind s l n h e BatchTrailer c a x = absurd (true≢false (sym c))
 city-behind s l n h e FileTrailer c a x = absurd (true≢false (sym c))
@@ -187,7 +186,7 @@ city-behind s l n h e FileTrailer c a x = absurd (true≢false (sym c))
 -- ## A line taken by both
 
 judged-as : (w : State) (xs : List ℕ) → within w ≡ true → isDone w ≡ false → isWhole xs ≡ true → (k : Kind) → codeOf (take 5 (take 50 xs)) ≡ Of k → allowed w k ≡ true
-    → faultOf (w .said) (w .group) (w .batch) k (take 50 xs) .number ≡ 0 → judgedFirst w xs ≡ taken k (nextFor w k (fieldsOf k (take 50 xs)))
+    → faultOf (w .before) (w .batch) k (take 50 xs) .number ≡ 0 → judgedFirst w xs ≡ taken k (nextFor w k (fieldsOf k (take 50 xs)))
 unfolding judgedFirst judgedLine judgedKind judgedAs pick
 judged-as w xs a b c k d e f = rw (a, b, c, d, e, eq-eqb _ _ f)
 

@@ -24,8 +24,9 @@ use Rattle.format.proofs.Link.{line-widths}
 use Rattle.field.specs.Rows.{Row, partAt, firstAnswer, fieldAnswer, rowsAt, checkRows, fieldsAt, firstOr}
 use Rattle.field.proofs.Numerics.{Numbered}
 use Rattle.record.specs.Kinds.{codeOf}
-use Rattle.record.specs.Faults.{faultAt, noFault, firstFault, fieldsOf, groupSaid, testsFor, maximaFor, faultOf}
+use Rattle.record.specs.Faults.{faultAt, noFault, firstFault, fieldsOf, knownGroup, testsFor, maximaFor, faultOf}
 use Rattle.record.specs.Read.{recordFor, textFor}
+use Rattle.record.specs.declared.Before.{Before}
 use Rattle.record.specs.declared.Batch.{Batch}
 use Rattle.record.specs.declared.Fault.{Fault}
 use Rattle.record.proofs.Reading.{is-formed}
@@ -86,21 +87,21 @@ group-numbered : (o : Option Group) (t : List ℕ) → Numbered (sameGroupTests 
 group-numbered none t = tt
 group-numbered (some g) t = (tt, tt)
 
-numbered : (said : Bool) (g : Group) (b : Batch) (k : Kind) (x : Fields k) → AllNumbered (layout k) (testsFor said g b k x)
-numbered said g b FileHeader x = ((tt, tt), ((tt, tt), (tt, ((tt, (tt, tt)), ((tt, tt), (tt, tt))))))
-numbered said g b BatchHeaderB x = ((tt, group-numbered (groupSaid said g) _), ((tt, (tt, tt)), ((tt, (tt, tt)), ((tt, tt), (tt, (tt, tt))))))
-numbered said g b BatchHeaderC x = ((tt, group-numbered (groupSaid said g) _), ((tt, (tt, tt)), ((tt, (tt, tt)), ((tt, tt), (tt, (tt, tt))))))
-numbered said g b FixedDescription x = (tt, (tt, tt))
-numbered said g b OrderingParty x = ((tt, (tt, tt)), ((tt, tt), (tt, ((tt, tt), (tt, tt)))))
-numbered said g b Transaction x = ((tt, (tt, tt)), ((tt, tt), ((tt, (tt, (tt, tt))), ((tt, (tt, (tt, tt))), (tt, tt)))))
-numbered said g b NamePayer x = (tt, (tt, tt))
-numbered said g b CityPayer x = (tt, tt)
-numbered said g b PaymentReference x = (tt, (tt, tt))
-numbered said g b Description x = (tt, (tt, tt))
-numbered said g b NameBeneficiary x = (tt, (tt, tt))
-numbered said g b CityBeneficiary x = (tt, tt)
-numbered said g b BatchTrailer x = ((tt, (tt, tt)), ((tt, tt), ((tt, (tt, tt)), (tt, tt))))
-numbered said g b FileTrailer x = (tt, tt)
+numbered : (p : Before) (b : Batch) (k : Kind) (x : Fields k) → AllNumbered (layout k) (testsFor p b k x)
+numbered p b FileHeader x = ((tt, tt), ((tt, tt), (tt, ((tt, (tt, tt)), ((tt, tt), (tt, tt))))))
+numbered p b BatchHeaderB x = ((tt, group-numbered (knownGroup p) _), ((tt, (tt, tt)), ((tt, (tt, tt)), ((tt, tt), (tt, (tt, tt))))))
+numbered p b BatchHeaderC x = ((tt, group-numbered (knownGroup p) _), ((tt, (tt, tt)), ((tt, (tt, tt)), ((tt, tt), (tt, (tt, tt))))))
+numbered p b FixedDescription x = (tt, (tt, tt))
+numbered p b OrderingParty x = ((tt, (tt, tt)), ((tt, tt), (tt, ((tt, tt), (tt, tt)))))
+numbered p b Transaction x = ((tt, (tt, tt)), ((tt, tt), ((tt, (tt, (tt, tt))), ((tt, (tt, (tt, tt))), (tt, tt)))))
+numbered p b NamePayer x = (tt, (tt, tt))
+numbered p b CityPayer x = (tt, tt)
+numbered p b PaymentReference x = (tt, (tt, tt))
+numbered p b Description x = (tt, (tt, tt))
+numbered p b NameBeneficiary x = (tt, (tt, tt))
+numbered p b CityBeneficiary x = (tt, tt)
+numbered p b BatchTrailer x = ((tt, (tt, tt)), ((tt, tt), ((tt, (tt, tt)), (tt, tt))))
+numbered p b FileTrailer x = (tt, tt)
 
 -- ## An accepted line
 
@@ -112,7 +113,7 @@ pub record Accepted (s : State) (xs : List ℕ) : Type 0 where
   pub whole : isWhole xs ≡ true
   pub kind : Kind
   pub coded : codeOf (take 5 (take 50 xs)) ≡ Of kind
-  pub fields : Faultless 6 (layout kind) (testsFor (s .said) (s .group) (s .batch) kind (fieldsOf kind (take 50 xs))) (take 50 xs)
+  pub fields : Faultless 6 (layout kind) (testsFor (s .before) (s .batch) kind (fieldsOf kind (take 50 xs))) (take 50 xs)
   pub step : stepAt s xs ≡ takenAs s kind (fieldsOf kind (take 50 xs))
 
 of-taken : {s : State} {xs : List ℕ} (t : Taken s xs) → stepAt s xs ≡ readBy (take 50 xs) (judgedFirst s xs .code) (judgedFirst s xs) → Accepted s xs
@@ -126,7 +127,7 @@ of-taken {s} {xs} t e =
       whole = t .whole;
       kind = k;
       coded = t .coded;
-      fields = faultless 6 (layout k) (testsFor (s .said) (s .group) (s .batch) k x) (take 50 xs) (checkRows (maximaFor (s .batch) k x)) (omega arith) (omega arith) (numbered (s .said) (s .group) (s .batch) k x) (t .faultless);
+      fields = faultless 6 (layout k) (testsFor (s .before) (s .batch) k x) (take 50 xs) (checkRows (maximaFor (s .batch) k x)) (omega arith) (omega arith) (numbered (s .before) (s .batch) k x) (t .faultless);
       step = e ∙ ap (λ (j : Judged). readBy (take 50 xs) (j .code) j) (t .is) ∙ ap (λ n. record { answer = 0; line = n; column = 0; next = nextFor s k x; read = recordFor k x; text = textFor k x }) (next-line s k x);
     }
 

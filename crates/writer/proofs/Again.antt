@@ -163,7 +163,7 @@ item-again s x f e (Of y) p q =
     ) e q
 item-again s x f e NoType p q = absurd (none≢some e q)
 
-again : (s : State) (k : Kind) (x : Fields k) → Fits (layout k) x → Holds (layout k) (testsFor (s .said) (s .group) (s .batch) k x) → (e : Entry) → entryOf (recordFor k x) ≡ some e
+again : (s : State) (k : Kind) (x : Fields k) → Fits (layout k) x → Holds (layout k) (testsFor (s .before) (s .batch) k x) → (e : Entry) → entryOf (recordFor k x) ≡ some e
     → code k ++ (writeFields (layout k) x ++ lineEnd) ≡ lineFor s e (textFor k x)
 again s kinds.FileHeader x f h e q =
     written-as s (padded (sender x)) (FileHeader (creationDate x) (digitsOf (identification x) .value) (duplicateCode x)) x (

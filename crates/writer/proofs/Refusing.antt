@@ -124,13 +124,13 @@ module _ (s : State) (e : Entry) (t : List ℕ) (h : length t ≡ 35) (z : unfit
   line = take 50 (lineFor s e t)
 
   abbrev fault : Fault
-  fault = faultOf (s .said) (s .group) (s .batch) (kindOf e) line
+  fault = faultOf (s .before) (s .batch) (kindOf e) line
 
   fault-stops : Stopped (unfitColumn s e t) (fault .number) (fault .column)
   unfolding faultOf firstFault
   fault-stops =
       let x = fieldsOf (kindOf e) line in
-      rows-unfit 6 (layout (kindOf e)) (testsFor (s .said) (s .group) (s .batch) (kindOf e) x) (givenFor s t e) line (checkRows (maximaFor (s .batch) (kindOf e) x)) (sized s t h e) (omega arith)
+      rows-unfit 6 (layout (kindOf e)) (testsFor (s .before) (s .batch) (kindOf e) x) (givenFor s t e) line (checkRows (maximaFor (s .batch) (kindOf e) x)) (sized s t h e) (omega arith)
       (ap (λ n. take n (drop 5 line)) (line-widths (kindOf e) .1) ∙ front-body s e t h) z
 
   abbrev Stops : Judged → Type 0

@@ -7,6 +7,7 @@ use lib.ListN.{take, drop, replicate}
 use Rattle.machine.specs.Lists.{spaces}
 use Rattle.format.specs.declared.Group.the-variants.{Payments}
 use Rattle.format.specs.declared.TransactionType.the-variants.{Salary}
+use Rattle.record.specs.Faults.{nothingBefore, afterHeader}
 use Rattle.reading.specs.State.{noItem, startState}
 use Rattle.reading.specs.declared.Stage.{Stage}
 use Rattle.reading.specs.declared.Stage.the-variants as stage
@@ -30,9 +31,8 @@ batchAt line p name =
     record {
       line = line;
       stage = p;
-      group = Payments;
-      said = true;
-      batch = record { account = 123456789; sequence = 1; items = 1; total = 15000; accounts = 123458023; fixed = 0 };
+      before = afterHeader nothingBefore Payments 1;
+      batch = record { account = 123456789; items = 1; total = 15000; accounts = 123458023; fixed = 0 };
       item = record { name = name; reference = false; descriptions = 0 };
     }
 
@@ -52,9 +52,8 @@ orderedOf account =
     record {
       line = 3;
       stage = stage.Ordered;
-      group = Payments;
-      said = true;
-      batch = record { account = account; sequence = 1; items = 0; total = 0; accounts = 0; fixed = 0 };
+      before = afterHeader nothingBefore Payments 1;
+      batch = record { account = account; items = 0; total = 0; accounts = 0; fixed = 0 };
       item = noItem;
     }
 

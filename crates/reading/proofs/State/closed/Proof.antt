@@ -10,5 +10,6 @@ closed-spec =
     (λ c κs. search needs)
     (λ c κs. search needs)
     (λ c κs. search needs)
+    (λ c κs. search needs)
     (λ c. search onward-via depth 20 fits 10000)
     )

@@ -1,5 +1,5 @@
 use borrow.Author.Needs.{needs}
-use Rattle.reading.proofs.Limits.{within-kept}
+use Rattle.reading.proofs.Limits.{within-limited}
 use Rattle.field.proofs.Picks.{picks}
 use Rattle.reading.specs.Check.{linesOf}
 use Rattle.reading.proofs.State.lines.Statement.{statement}
@@ -11,7 +11,7 @@ lines-spec =
     tie.close
     (tie.spec
     (λ c κs. search needs)
-    (λ c κs. search within-kept)
+    (λ c κs. search within-limited)
     (λ c κs. search needs)
     (λ c. search picks depth 20 fits 10000)
     (λ c. search picks depth 20 fits 10000)

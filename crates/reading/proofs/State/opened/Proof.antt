@@ -1,5 +1,5 @@
 use borrow.Author.Needs.{needs}
-use Rattle.reading.proofs.Moves.{onward-via}
+use Rattle.reading.proofs.Moves.{header-via, onward-via}
 use Rattle.reading.proofs.State.opened.Statement.{statement}
 use Rattle.reading.proofs.State.opened.Tie as tie
 
@@ -11,5 +11,7 @@ opened-spec =
     (λ c κs. search needs)
     (λ c κs. search needs)
     (λ c κs. search needs)
-    (λ c. search onward-via depth 20 fits 10000)
+    (λ c κs. search needs)
+    (λ c κs. search needs)
+    (λ c. search (header-via, onward-via) depth 20 fits 10000)
     )

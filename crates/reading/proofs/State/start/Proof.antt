@@ -9,5 +9,6 @@ start-spec =
     (tie.spec
     (λ c κs. search needs)
     (λ c κs. search needs)
+    (λ c κs. search needs)
     (λ c. search started depth 20 fits 10000)
     )

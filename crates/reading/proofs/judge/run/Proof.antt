@@ -2,13 +2,13 @@ use borrow.Author.Needs.{needs}
 use Prim.Native.Nat.{_-_}
 use lib.ListN.{length}
 use Rattle.reading.proofs.Running.{Running, runs, run-more}
-use Rattle.reading.proofs.Judgements.{kept-after}
-use Rattle.reading.specs.State.{Kept}
+use Rattle.reading.proofs.Judgements.{limited-after}
+use Rattle.reading.specs.State.{Limited}
 use Rattle.reading.proofs.judge.run.Statement.{statement}
 use Rattle.reading.proofs.judge.run.Tie as tie
 
 abbrev Inv-loop : tie.InvT-loop
-Inv-loop bytes last₀ at₀ last at = Kept (last .next) × Running (last₀ .next) bytes last at
+Inv-loop bytes last₀ at₀ last at = Limited (last .next) × Running (last₀ .next) bytes last at
 
 abbrev μ-loop : tie.MeasureT-loop
 μ-loop bytes last₀ at₀ last at = length bytes - at
@@ -26,6 +26,6 @@ run-spec =
     (λ c. search runs depth 20 fits 10000)
     (λ c. search needs)
     (λ c. search needs)
-    (λ c. (search kept-after depth 20 fits 10000, run-more (c .before .before .before .before .before .loop .inv .1) (c .before .before .before .before .loop-test .taken) (c .before .before .before .part .ensures) (c .before .before .then .ensures) (c .if1 .left)))
+    (λ c. (search limited-after depth 20 fits 10000, run-more (c .before .before .before .before .before .loop .inv .1) (c .before .before .before .before .loop-test .taken) (c .before .before .before .part .ensures) (c .before .before .then .ensures) (c .if1 .left)))
     (λ c. search runs depth 20 fits 10000)
     )

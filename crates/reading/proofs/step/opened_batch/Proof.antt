@@ -8,6 +8,5 @@ opened-batch-spec =
     tie.close
     (tie.spec
     (λ c κs. search needs)
-    (λ c κs. search needs)
     (λ c. search opened-made depth 20 fits 10000)
     )
