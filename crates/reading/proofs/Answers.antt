@@ -55,6 +55,15 @@ unfolding stepAt
 step-first s [] h = absurd (omega arith)
 step-first s (x ∷ xs) h = refl
 
+-- the number and the column of a line's answer are those that it is judged
+pub step-judged : (s : State) (xs : List ℕ) → 0 < length xs → (stepAt s xs .answer .number ≡ judgedFirst s xs .number) × (stepAt s xs .answer .column ≡ judgedFirst s xs .column)
+step-judged s xs h = rw (step-first s xs h) (by (first s xs))
+  where
+    by : {j : Judged} → First s xs j → (readBy (take 50 xs) (j .code) j .answer .number ≡ j .number) × (readBy (take 50 xs) (j .code) j .answer .column ≡ j .column)
+    by (beyond w) = (refl, refl)
+    by (halted w c n z) = (refl, refl)
+    by (moved w k c a f) = (refl, refl)
+
 pub step-none : {x : LineRead} {a : Answer} (s : State) (xs : List ℕ) → length xs ≡ 0 → a ≡ endedAt s → x ≡ nothingRead s a → x ≡ stepAt s xs
 unfolding stepAt
 step-none s [] h e f = f ∙ ap (nothingRead s) e
