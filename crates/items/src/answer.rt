@@ -69,7 +69,10 @@ impl Search {
             }
             let texts = found.texts();
             put(&texts, 0, out);
-            return ItemRead { answer: file, fields };
+            return ItemRead {
+                answer: file,
+                fields,
+            };
         }
         refused(Answer::refusal(format::NO_SUCH_ITEM, file.line, 0))
     }

@@ -66,7 +66,10 @@ pub fn rewrite(file: &[u8], out: &mut [u8]) -> Rewritten
 {
     let a = file::check(file);
     if a.number != 0 {
-        return Rewritten { answer: a, written: 0 };
+        return Rewritten {
+            answer: a,
+            written: 0,
+        };
     }
     let n = size(file);
     if out.len() < n {
@@ -76,5 +79,8 @@ pub fn rewrite(file: &[u8], out: &mut [u8]) -> Rewritten
         };
     }
     copy(file, out);
-    Rewritten { answer: a, written: n }
+    Rewritten {
+        answer: a,
+        written: n,
+    }
 }

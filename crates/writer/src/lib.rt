@@ -57,7 +57,10 @@ fn write_line(state: State, line: [u8; 52], out: &mut [u8]) -> Written
     let answer = r.answer;
     let next = r.next;
     if answer.number != 0 {
-        return Written { answer, next: state };
+        return Written {
+            answer,
+            next: state,
+        };
     }
     if out.len() < 52 {
         return Written {
