@@ -29,11 +29,11 @@ fn put_header(
     created: u64,
     identification: u64,
     duplicate: u64,
-    sender: &[u8],
+    text: [u8; 35],
 ) -> usize {
     let a = put_line(page, at, b"file=", &codes::FILE_NAME);
     let b = put_number(page, a, b"created=", created, 6);
-    let c = put_line(page, b, b"sender=", sender);
+    let c = put_line(page, b, b"sender=", part(&text, 0, 5));
     let d = put_number(page, c, b"identification=", identification, 4);
     put_number(page, d, b"duplicate=", duplicate, 1)
 }
@@ -55,13 +55,13 @@ fn put_batch(page: &mut [u8], at: usize, state: State) -> usize {
 }
 
 // What a record that was read adds; state is the one before it.
-fn put_record(page: &mut [u8], at: usize, state: State, read: Record, sender: &[u8]) -> usize {
+fn put_record(page: &mut [u8], at: usize, state: State, read: Record, text: [u8; 35]) -> usize {
     match read {
         Record::FileHeader {
             created,
             identification,
             duplicate,
-        } => put_header(page, at, created, identification, duplicate, sender),
+        } => put_header(page, at, created, identification, duplicate, text),
         Record::BatchTrailer {
             total: _,
             accounts: _,
@@ -99,7 +99,7 @@ fn list_line(before: Listed, rest: &[u8], failed: bool, page: &mut [u8]) -> List
     let text = r.text;
     let answer = r.answer;
     let next = r.next;
-    listed.at = put_record(page, listed.at, state, read, part(&text, 0, 5));
+    listed.at = put_record(page, listed.at, state, read, text);
     listed.answer = answer;
     listed.state = next;
     listed.done = listed.done & !failed;
