@@ -14,7 +14,7 @@ use Rattle.checking.specs.Answered.{Answered}
 use Rattle.checking.specs.declared.Checked.{Checked}
 
 abbrev checkedBy : LineRead → Lines → Checked
-checkedBy r l = record { answer = r .answer; line = r .line; column = r .column; state = r .next; lines = l }
+checkedBy r l = record { answer = r .answer; state = r .next; lines = l }
 
 pub answered-by : {r : LineRead} {buffer : List ℕ} (l : Lines) (s : State) (bytes : List ℕ) → Reached s → bytes ≡ nextLine l buffer → r ≡ stepAt s bytes → Answered (checkedBy r l) buffer
 answered-by l s bytes h n e =
@@ -24,8 +24,6 @@ answered-by l s bytes h n e =
       run = h;
       next = n;
       answer = ap (λ (x : LineRead). x .answer) e;
-      line = ap (λ (x : LineRead). x .line) e;
-      column = ap (λ (x : LineRead). x .column) e;
       state = ap (λ (x : LineRead). x .next) e;
     }
 

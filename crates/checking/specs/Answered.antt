@@ -15,6 +15,4 @@ pub record Answered (c : Checked) (buffer : List ℕ) : Type 0 where
   pub run : Reached before
   pub next : bytes ≡ nextLine (c .lines) buffer
   pub answer : c .answer ≡ stepAt before bytes .answer
-  pub line : c .line ≡ stepAt before bytes .line
-  pub column : c .column ≡ stepAt before bytes .column
   pub state : c .state ≡ stepAt before bytes .next

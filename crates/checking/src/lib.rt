@@ -1,14 +1,13 @@
 // An input checked line by line, for the programs: files of any length in constant memory.
 ghost use Rattle.checking.specs.Answered.{Answered};
 ghost use Rattle.file.specs.Reached.{Reached};
+use format::Answer;
 use reading::State;
 use streams::Lines;
 
-// The answer to the last line, its line and column, the state after it, and what is taken of the buffer: a refused line stands next in it.
+// The answer to the last line, the state after it, and what is taken of the buffer: a refused line stands next in it.
 pub struct Checked {
-    pub answer: u8,
-    pub line: u64,
-    pub column: u8,
+    pub answer: Answer,
     pub state: State,
     pub lines: Lines,
 }
@@ -19,11 +18,10 @@ fn answered(state: State, lines: Lines, buffer: &[u8]) -> Checked
     ensures { λ r. ⌜ Answered r (now (buffer .entry)) ⌝ }
 {
     let r = state.line(lines.line(buffer));
+    let answer = r.answer;
     let next = r.next;
     Checked {
-        answer: r.answer,
-        line: r.line,
-        column: r.column,
+        answer,
         state: next,
         lines,
     }
@@ -51,7 +49,7 @@ pub fn check(fd: i32, name: &[u8], buffer: &mut [u8]) -> Checked
     while 0 < turns {
         lines = lines.pulled(fd, name, buffer);
         checked = checked.next(lines, buffer);
-        if checked.answer != 0 {
+        if checked.answer.number != 0 {
             return checked;
         }
         if lines.end <= lines.at {

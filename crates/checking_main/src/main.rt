@@ -1,7 +1,7 @@
 // Says of each file that its arguments name, or of standard input, whether it is accepted, and if not what to tell the sender: the place, the
 // field, what is wrong, and the line as it stands with a mark under the column. For the operator on the telephone.
-use checking::Checked;
 use field::bytes::part;
+use format::Answer;
 use format::Code;
 use libc::STDOUT_FILENO;
 use page::put_digits;
@@ -203,14 +203,14 @@ fn put_line_as_is(page: &mut [u8], at: usize, line: LineShown, column: u8) -> us
     put_text(page, d, b"^\n")
 }
 
-fn put_refusal(page: &mut [u8], at: usize, checked: Checked, line: LineShown, m: Extent) -> usize {
+fn put_refusal(page: &mut [u8], at: usize, answer: Answer, line: LineShown, m: Extent) -> usize {
     let code = line.code;
-    let a = put_place(page, at, checked.line, checked.column, code);
-    let b = put_what(page, a, checked.answer, m);
-    if checked.answer == format::ENDS_EARLY {
+    let a = put_place(page, at, answer.line, answer.column, code);
+    let b = put_what(page, a, answer.number, m);
+    if answer.number == format::ENDS_EARLY {
         return b;
     }
-    put_line_as_is(page, b, line, checked.column)
+    put_line_as_is(page, b, line, answer.column)
 }
 
 fn put_acceptance(page: &mut [u8], at: usize, lines: u64) -> usize {
@@ -220,30 +220,31 @@ fn put_acceptance(page: &mut [u8], at: usize, lines: u64) -> usize {
 }
 
 // What is printed of a file, and whether that was done.
-fn is_said(checked: Checked, line: LineShown, m: Extent, name: &[u8]) -> bool {
+fn is_said(answer: Answer, line: LineShown, m: Extent, name: &[u8]) -> bool {
     let mut page = [0u8; 8192];
     let a = put_name(&mut page, 0, name);
-    if checked.answer == 0 {
-        let b = put_acceptance(&mut page, a, checked.line);
+    if answer.number == 0 {
+        let b = put_acceptance(&mut page, a, answer.line);
         return streams::told(io::write_all(STDOUT_FILENO, part(&page, 0, b)));
     }
-    let b = put_refusal(&mut page, a, checked, line, m);
+    let b = put_refusal(&mut page, a, answer, line, m);
     streams::told(io::write_all(STDOUT_FILENO, part(&page, 0, b)))
 }
 
 fn check_file(fd: i32, name: &[u8]) -> u8 {
     let mut buffer = [0u8; 65520];
     let checked = checking::check(fd, name, &mut buffer);
+    let answer = checked.answer;
     let lines = checked.lines;
-    let line = shown(checked.answer, lines.line(&buffer));
+    let line = shown(answer.number, lines.line(&buffer));
     let mut m = unmeasured();
-    if checked.answer == format::BROKEN_LINE {
+    if answer.number == format::BROKEN_LINE {
         m = measured_on(lines, fd, name, &mut buffer);
     }
     if lines.failed | m.failed {
-        return streams::status_of(checked.answer, false);
+        return streams::status_of(answer.number, false);
     }
-    streams::status_of(checked.answer, is_said(checked, line, m, name))
+    streams::status_of(answer.number, is_said(answer, line, m, name))
 }
 
 // The file of argument i, or standard input.

@@ -6,12 +6,14 @@ use mathlib.Core.Bool.{Bool, true, false}
 use mathlib.Core.Option.{Option, none, some}
 use native.Mathlib.Omega.{arith}
 use borrow.Author.Needs.{needs}
-use borrow.Author.Tests.{eq-eqb, ne-eqb, eqb-false, le-leb, lt-leb}
+use borrow.Author.Tests.{eq-eqb, ne-eqb, eqb-true, eqb-false, le-leb, lt-leb}
 use lib.ListN.{length, set, take, drop, length-set, length-append, length-drop, drop-of-length-le}
 use lib.Seq.{take-at, drop-at, drop-drop, length-take-le}
 use lib.Dec.{leb, eqb}
 use Rattle.machine.specs.Lists.{pick, same, placed, putIn}
 use Rattle.machine.specs.Digits.{digitsOnto, decimal, valueAfter}
+use Rattle.format.specs.Answers.{refusal}
+use Rattle.format.specs.declared.Answer.{Answer}
 use Rattle.format.specs.Cutting.{rows}
 use Rattle.format.specs.Rules.{typeOf}
 use Rattle.format.specs.declared.TransactionType.{TransactionType}
@@ -20,14 +22,13 @@ use Rattle.format.specs.declared.TypeRead.{TypeRead}
 use Rattle.format.specs.declared.TypeRead.the-variants.{Of, NoType}
 use Rattle.field.proofs.Putting.{put-fits, length-placed, placed-both}
 use Rattle.reading.specs.Check.{checkOf}
-use Rattle.reading.specs.declared.Answer.{Answer}
 use Rattle.record.proofs.Typing.{of-case}
 use Rattle.items.specs.Search.{noFields, started, afterRows}
-use Rattle.items.specs.Answering.{told, isFound, answeredBy, roomBy, itemOf, roomAfter}
+use Rattle.items.specs.Answering.{answered, isFound, answeredBy, roomBy, itemOf, roomAfter}
 use Rattle.items.specs.Promises.{Promised, ItemAt, handedOut, roomWith, textsFor, itemAt}
 use Rattle.items.specs.declared.ItemFields.{ItemFields}
 use Rattle.items.specs.declared.ItemRead.{ItemRead}
-use Rattle.clieop_c.specs.Returned.{packed, unpacked, itemAnswer, numberOf, typeNumber, itemAsked, numbersWith, textsWith, itemNumbers, textsBy, itemTexts, fieldsWith, textsFound, Held, fieldsIn, itemBy, itemFound, describedRoom, ItemPromised}
+use Rattle.clieop_c.specs.Returned.{packed, unpacked, numberOf, typeNumber, itemAsked, numbersWith, textsWith, itemNumbers, textsBy, itemTexts, fieldsWith, textsFound, Held, fieldsIn, itemBy, itemFound, describedRoom, ItemPromised}
 use Rattle.clieop_c.proofs.Packing.{check-line}
 
 -- ## The type
@@ -118,13 +119,13 @@ texts-first f t l =
 
 -- a refusal without fields, or an item with a type
 data Shape (line : ℕ) : ItemRead → Type 0 where
-  refusing : (number column : ℕ) → (number ≡ 0 → ⊥) → Shape line (told number line column noFields)
-  handing : (f : ItemFields) → isFound (f .kind) ≡ true → Shape line (told 0 line 0 f)
+  refusing : (number column : ℕ) → (number ≡ 0 → ⊥) → Shape line (answered (refusal number line column) noFields)
+  handing : (number column : ℕ) (f : ItemFields) → number ≡ 0 → isFound (f .kind) ≡ true → Shape line (answered (refusal number line column) f)
 
 shape-by : (a : Answer) (f : ItemFields) (p q w : Bool) → eqb (a .number) 0 ≡ p → isFound (f .kind) ≡ q
-    → Shape (a .line) (pick p (pick q (pick w (told 0 (a .line) 0 f) (told 12 (a .line) 0 noFields)) (told 13 (a .line) 0 noFields)) (told (a .number) (a .line) (a .column) noFields))
+    → Shape (a .line) (pick p (pick q (pick w (answered a f) (answered (refusal 12 (a .line) 0) noFields)) (answered (refusal 13 (a .line) 0) noFields)) (answered a noFields))
 unfolding pick
-shape-by a f true true true e h = handing f h
+shape-by a f true true true e h = handing (a .number) (a .column) f (eqb-true (a .number) 0 e) h
 shape-by a f true true false e h = refusing 12 0 (λ z. absurd (omega (arith, z)))
 shape-by a f true false w e h = refusing 13 0 (λ z. absurd (omega (arith, z)))
 shape-by a f false q w e h = refusing (a .number) (a .column) (eqb-false (a .number) 0 e)
@@ -135,22 +136,22 @@ shape file batch item room =
     let f = afterRows (started batch item) (rows file) .found .fields in
     shape-by (checkOf file) f (eqb (checkOf file .number) 0) (isFound (f .kind)) (leb 128 room) refl refl
 
-line-shape : {line : ℕ} {r : ItemRead} → Shape line r → r .line ≡ line
+line-shape : {line : ℕ} {r : ItemRead} → Shape line r → r .answer .line ≡ line
 line-shape (refusing number column z) = refl
-line-shape (handing f h) = refl
+line-shape (handing number column f z h) = refl
 
-found-shape : {line : ℕ} {r : ItemRead} (before texts : List ℕ) → Shape line r → Held r texts → itemBy (itemAnswer r) (itemNumbers r before) texts ≡ r
+found-shape : {line : ℕ} {r : ItemRead} (before texts : List ℕ) → Shape line r → Held r texts → itemBy (r .answer) (itemNumbers r before) texts ≡ r
 unfolding itemBy pick itemNumbers numbersWith fieldsIn textsFound Held
 found-shape before texts (refusing number column z) h = rw (ne-eqb number 0 z) refl
-found-shape {line} before texts (handing f g) h =
-    let k = ap (λ x. fieldsWith x (f .amount) (f .payer) (f .beneficiary) texts) (type-read (f .kind) g) ∙ h refl in
-    λ i. told 0 line 0 (k i)
+found-shape {line} before texts (handing number column f z g) h =
+    let k = ap (λ x. fieldsWith x (f .amount) (f .payer) (f .beneficiary) texts) (type-read (f .kind) g) ∙ h z in
+    rw (eq-eqb number 0 z) (ap (answered (refusal number line column)) k)
 
 pub held-handed : (r : ItemRead) (texts : List ℕ) → textsFound (r .fields) texts ≡ r .fields → Held r texts
 unfolding Held
 held-handed r texts e z = e
 
-pub held-refused : (r : ItemRead) (texts : List ℕ) → (r .answer ≡ 0 → ⊥) → Held r texts
+pub held-refused : (r : ItemRead) (texts : List ℕ) → (r .answer .number ≡ 0 → ⊥) → Held r texts
 unfolding Held
 held-refused r texts h z = absurd (h z)
 
@@ -173,7 +174,7 @@ none-written (some x) = refl
 pub promised-of-one : {r : ItemRead} {c : ℕ} {after : List ℕ} (file : List ℕ) (batch item : ℕ) → Promised file batch item (c ∷ []) r after → Promised file batch item [] r []
 promised-of-one {r} file batch item p =
     record {
-      handed = λ f h. p .handed f h ∙ same-handed (r .line) (itemAt f batch item) 1 0 refl;
+      handed = λ f h. p .handed f h ∙ same-handed (r .answer .line) (itemAt f batch item) 1 0 refl;
       written = λ f h. none-written (itemAt f batch item);
       lines = p .lines;
       refusal = p .refusal;
@@ -181,19 +182,19 @@ promised-of-one {r} file batch item p =
     }
 
 lacking : (a : Answer) (q b : Bool) → eqb (a .number) 0 ≡ b
-    → pick b (pick q (told 12 (a .line) 0 noFields) (told 13 (a .line) 0 noFields)) (told (a .number) (a .line) (a .column) noFields) .answer ≡ 0 → ⊥
+    → pick b (pick q (answered (refusal 12 (a .line) 0) noFields) (answered (refusal 13 (a .line) 0) noFields)) (answered a noFields) .answer .number ≡ 0 → ⊥
 unfolding pick
 lacking a true true e w = absurd (omega (arith, w))
 lacking a false true e w = absurd (omega (arith, w))
 lacking a q false e w = eqb-false (a .number) 0 e w
 
-lacking-refused : (file : List ℕ) (batch item : ℕ) → itemOf file batch item 0 .answer ≡ 0 → ⊥
+lacking-refused : (file : List ℕ) (batch item : ℕ) → itemOf file batch item 0 .answer .number ≡ 0 → ⊥
 unfolding itemOf answeredBy pick
 lacking-refused file batch item = lacking (checkOf file) (isFound (afterRows (started batch item) (rows file) .found .fields .kind)) (eqb (checkOf file .number) 0) refl
 
 module _ {r : ItemRead} (file : List ℕ) (batch item places : ℕ) (e : r ≡ itemOf file batch item 0) where
-  lacking-answer : r .answer ≡ 0 → ⊥
-  lacking-answer w = lacking-refused file batch item (ap (λ (y : ItemRead). y .answer) (sym e) ∙ w)
+  lacking-answer : r .answer .number ≡ 0 → ⊥
+  lacking-answer w = lacking-refused file batch item (ap (λ (y : ItemRead). y .answer .number) (sym e) ∙ w)
 
   pub lacking-numbers : (numbers : List ℕ) → numbers ≡ itemNumbers r numbers
   unfolding itemNumbers pick
@@ -213,7 +214,7 @@ module _ {r : ItemRead} (file : List ℕ) (batch item places : ℕ) (e : r ≡ i
   untexted : (texts : List ℕ) → r ≡ itemAsked file batch item (length texts) places → texts ≡ itemTexts file batch item texts places
   unfolding itemTexts pick
   untexted texts g =
-      let z : itemAsked file batch item (length texts) places .answer ≡ 0 → ⊥ = λ w. lacking-answer (ap (λ (y : ItemRead). y .answer) g ∙ w) in
+      let z : itemAsked file batch item (length texts) places .answer .number ≡ 0 → ⊥ = λ w. lacking-answer (ap (λ (y : ItemRead). y .answer .number) g ∙ w) in
       rw (ne-eqb _ _ z) refl
 
   pub texts-unplaced : (texts : List ℕ) → places < 4 → texts ≡ itemTexts file batch item texts places
@@ -236,23 +237,23 @@ module _ {r : ItemRead} (file : List ℕ) (batch item : ℕ) (texts : List ℕ) 
 
 -- ## With room
 
-kept-by : (p q w : Bool) (x y : List ℕ) (i j k l : ItemRead) → i .answer ≡ 0 → (pick p (pick q (pick w i j) k) l .answer ≡ 0 → ⊥) → pick p (pick q (pick w x y) y) y ≡ y
+kept-by : (p q w : Bool) (x y : List ℕ) (i j k l : ItemRead) → (p ≡ true → i .answer .number ≡ 0) → (pick p (pick q (pick w i j) k) l .answer .number ≡ 0 → ⊥) → pick p (pick q (pick w x y) y) y ≡ y
 unfolding pick
-kept-by true true true x y i j k l z h = absurd (h z)
+kept-by true true true x y i j k l z h = absurd (h (z refl))
 kept-by true true false x y i j k l z h = refl
 kept-by true false w x y i j k l z h = refl
 kept-by false q w x y i j k l z h = refl
 
-refused-kept : (file : List ℕ) (batch item : ℕ) (out : List ℕ) → (itemOf file batch item (length out) .answer ≡ 0 → ⊥) → roomAfter file batch item out ≡ out
+refused-kept : (file : List ℕ) (batch item : ℕ) (out : List ℕ) → (itemOf file batch item (length out) .answer .number ≡ 0 → ⊥) → roomAfter file batch item out ≡ out
 unfolding itemOf answeredBy roomAfter roomBy
 refused-kept file batch item out h =
-    kept-by (eqb (checkOf file .number) 0) (isFound (afterRows (started batch item) (rows file) .found .fields .kind)) (leb 128 (length out)) _ out _ _ _ _ refl h
+    kept-by (eqb (checkOf file .number) 0) (isFound (afterRows (started batch item) (rows file) .found .fields .kind)) (leb 128 (length out)) _ out _ _ _ _ (λ e. eqb-true (checkOf file .number) 0 e) h
 
-pub numbers-kept : (r : ItemRead) (numbers : List ℕ) → (r .answer ≡ 0 → ⊥) → numbers ≡ itemNumbers r numbers
+pub numbers-kept : (r : ItemRead) (numbers : List ℕ) → (r .answer .number ≡ 0 → ⊥) → numbers ≡ itemNumbers r numbers
 unfolding itemNumbers pick
 numbers-kept r numbers z = rw (ne-eqb _ _ z) refl
 
-pub numbers-handed : {o : List ℕ} (r : ItemRead) (numbers : List ℕ) → r .answer ≡ 0 → o ≡ numbersWith (r .fields) numbers → o ≡ itemNumbers r numbers
+pub numbers-handed : {o : List ℕ} (r : ItemRead) (numbers : List ℕ) → r .answer .number ≡ 0 → o ≡ numbersWith (r .fields) numbers → o ≡ itemNumbers r numbers
 unfolding itemNumbers pick
 numbers-handed r numbers z e = e ∙ rw (eq-eqb _ _ z) refl
 
@@ -265,14 +266,14 @@ module _ {r : ItemRead} {places : ℕ} (file : List ℕ) (batch item : ℕ) (tex
   by-asked t = ap (λ y. textsBy y texts t) asked
 
   module _ {t : List ℕ} (f : t ≡ roomAfter file batch item texts) where
-    pub texts-handed : {u : List ℕ} → r .answer ≡ 0 → u ≡ textsWith (r .fields) t → u ≡ itemTexts file batch item texts places
+    pub texts-handed : {u : List ℕ} → r .answer .number ≡ 0 → u ≡ textsWith (r .fields) t → u ≡ itemTexts file batch item texts places
     unfolding itemTexts pick
     texts-handed {u} z g = g ∙ ap (textsWith (r .fields)) f ∙ rw (eq-eqb _ _ z) refl ∙ by-asked (roomAfter file batch item texts)
 
-    pub texts-refused : (r .answer ≡ 0 → ⊥) → t ≡ itemTexts file batch item texts places
+    pub texts-refused : (r .answer .number ≡ 0 → ⊥) → t ≡ itemTexts file batch item texts places
     unfolding itemTexts pick
     texts-refused z =
-        f ∙ refused-kept file batch item texts (λ w. z (ap (λ (y : ItemRead). y .answer) e ∙ w)) ∙ rw (ne-eqb _ _ z) refl ∙ by-asked (roomAfter file batch item texts)
+        f ∙ refused-kept file batch item texts (λ w. z (ap (λ (y : ItemRead). y .answer .number) e ∙ w)) ∙ rw (ne-eqb _ _ z) refl ∙ by-asked (roomAfter file batch item texts)
 
 -- ## The promise, of the first 128 bytes
 
@@ -301,7 +302,7 @@ module _ (out : List ℕ) (l : 128 ≤ length out) where
   first-promised : {file after : List ℕ} {batch item : ℕ} {r : ItemRead} → length after ≡ length out → Promised file batch item out r after → Promised file batch item (take 128 out) r (take 128 after)
   first-promised {batch = batch} {item = item} {r = r} k p =
       record {
-        handed = λ f h. p .handed f h ∙ same-handed (r .line) (itemAt f batch item) (length out) (length (take 128 out)) (fits ∙ sym first-fits);
+        handed = λ f h. p .handed f h ∙ same-handed (r .answer .line) (itemAt f batch item) (length out) (length (take 128 out)) (fits ∙ sym first-fits);
         written = λ f h. first-written (itemAt f batch item) k (p .written f h);
         lines = p .lines;
         refusal = p .refusal;
@@ -328,17 +329,17 @@ module _ {r : ItemRead} {t : List ℕ} (file : List ℕ) (batch item : ℕ) (tex
 -- ## The whole
 
 module _ {r : ItemRead} (file : List ℕ) (batch item room places : ℕ) (e : r ≡ itemAsked file batch item room places) where
-  pub whole-line : r .line ≤ 6999369996
+  pub whole-line : r .answer .line ≤ 6999369996
   unfolding itemAsked
-  whole-line = subst (λ n. n ≤ 6999369996) (sym (ap (λ (y : ItemRead). y .line) e ∙ line-shape (shape file batch item _))) (check-line file)
+  whole-line = subst (λ n. n ≤ 6999369996) (sym (ap (λ (y : ItemRead). y .answer .line) e ∙ line-shape (shape file batch item _))) (check-line file)
 
-  pub whole-number : {n : ℕ} → n ≡ packed (itemAnswer r) → n ≡ packed (itemAnswer (itemAsked file batch item room places))
-  whole-number h = h ∙ ap (λ y. packed (itemAnswer y)) e
+  pub whole-number : {n : ℕ} → n ≡ packed (r .answer) → n ≡ packed (itemAsked file batch item room places .answer)
+  whole-number h = h ∙ ap (λ (y : ItemRead). packed (y .answer)) e
 
   pub whole-numbers : {o : List ℕ} (numbers : List ℕ) → o ≡ itemNumbers r numbers → o ≡ itemNumbers (itemAsked file batch item room places) numbers
   whole-numbers numbers h = h ∙ ap (λ y. itemNumbers y numbers) e
 
-  module _ (n : ℕ) (numbers before texts : List ℕ) (u : unpacked n ≡ itemAnswer r) (h : numbers ≡ itemNumbers r before) (t : Held r texts) where
+  module _ (n : ℕ) (numbers before texts : List ℕ) (u : unpacked n ≡ r .answer) (h : numbers ≡ itemNumbers r before) (t : Held r texts) where
     own : itemFound n numbers texts ≡ r
     unfolding itemAsked
     own = ap₂ (λ a x. itemBy a x texts) u h ∙ found-shape before texts (subst (Shape (checkOf file .line)) (sym e) (shape file batch item _)) t

@@ -8,15 +8,16 @@ use borrow.Author.Needs.{needs}
 use borrow.Author.Tests.{eqb-false}
 use lib.Dec.{eqb}
 use Rattle.machine.specs.Lists.{pick}
+use Rattle.format.specs.Answers.{refusal, acceptance}
+use Rattle.format.specs.declared.Answer.{Answer}
 use Rattle.reading.specs.State.{startState, within}
-use Rattle.reading.specs.Step.{isDone, refusalLine, nothingRead, endedAt}
-use Rattle.reading.specs.Check.{linesOf, answerOf, checkOf, restOf}
+use Rattle.reading.specs.Step.{isDone, refusalBy, endedAt}
+use Rattle.reading.specs.Check.{linesOf, checkOf, restOf}
 use Rattle.reading.specs.declared.State.{State}
 use Rattle.reading.specs.declared.Judged.{Judged}
-use Rattle.reading.specs.declared.Answer.{Answer}
 use Rattle.reading.proofs.Limits.{within-line}
 use Rattle.reading.proofs.Answers.{rest-named}
-use Rattle.file.specs.Meaning.{answer, Means}
+use Rattle.file.specs.Meaning.{Means}
 use Rattle.clieop_c.specs.Returned.{packed, unpacked}
 
 -- WHAT WAS PACKED IS READ BACK
@@ -29,7 +30,7 @@ module _ (a : Answer) (n : a .number < 256) (c : a .column < 256) where
       let q : (a .number + 256 * a .column + 65536 * a .line) / 256 ≡ a .column + 256 * a .line = omega arith in
       let m : (a .column + 256 * a .line) % 256 ≡ a .column = omega arith in
       let z = ap (λ d. d % 256) q ∙ m in
-      λ i. answer (x i) (y i) (z i)
+      λ i. refusal (x i) (y i) (z i)
 
 -- of an answer's parts
 module _ {number column : ℕ} (a : Answer) (n : number ≡ a .number) (c : column ≡ a .column) where
@@ -44,14 +45,13 @@ pub ruleset packing = (packs, packs-read, needs)
 
 -- ## No answer of a file names a line above 6,999,369,996
 
-ended-line : (s : State) (w d : Bool) → within s ≡ w → pick w (pick d (nothingRead s 0 (s .line) 0) (nothingRead s 10 (s .line + 1) 0)) (nothingRead s 24 0 0) .line ≤ 6999369996
+ended-line : (s : State) (w d : Bool) → within s ≡ w → pick w (pick d (acceptance (s .line)) (refusal 10 (s .line + 1) 0)) (refusal 24 0 0) .line ≤ 6999369996
 unfolding pick
 ended-line s true true e = omega (arith, within-line s e)
 ended-line s true false e = omega (arith, within-line s e)
 ended-line s false d e = omega arith
 
-judged-line : (file : List ℕ) (j : Judged) (q : Bool) → j ≡ linesOf startState file → eqb (j .number) 0 ≡ q
-    → pick q (answerOf (endedAt (j .next))) (record { number = j .number; line = refusalLine (j .number) (j .next .line); column = j .column }) .line ≤ 6999369996
+judged-line : (file : List ℕ) (j : Judged) (q : Bool) → j ≡ linesOf startState file → eqb (j .number) 0 ≡ q → pick q (endedAt (j .next)) (refusalBy j) .line ≤ 6999369996
 unfolding pick endedAt
 judged-line file j true e h = ended-line (j .next) (within (j .next)) (isDone (j .next)) refl
 judged-line file j false e h = rest-named startState file e (eqb-false (j .number) 0 h)

@@ -7,16 +7,15 @@ use lib.Dec.{leb, eqb}
 use Rattle.machine.specs.Lists.{pick, placed}
 use Rattle.machine.specs.Digits.{valueOf, decimal}
 use Rattle.format.specs.Answers.{accepted}
+use Rattle.format.specs.declared.Answer.{Answer}
 use Rattle.format.specs.Rules.{typeText, typeOf}
 use Rattle.format.specs.declared.TransactionType.{TransactionType}
 use Rattle.format.specs.declared.TypeRead.{TypeRead}
 use Rattle.format.specs.declared.TypeRead.the-variants.{Of, NoType}
-use Rattle.reading.specs.declared.Answer.{Answer}
-use Rattle.file.specs.Meaning.{answer}
-use Rattle.rewriting.specs.Rewriting.{told}
+use Rattle.rewriting.specs.Rewriting.{answered}
 use Rattle.rewriting.specs.declared.Rewritten.{Rewritten}
 use Rattle.items.specs.Search.{noFields}
-use Rattle.items.specs.Answering.{told as toldItem, itemOf, roomAfter as descriptionsAfter}
+use Rattle.items.specs.Answering.{answered as answeredItem, itemOf, roomAfter as descriptionsAfter}
 use Rattle.items.specs.Promises.{Promised}
 use Rattle.items.specs.declared.ItemFields.{ItemFields}
 use Rattle.items.specs.declared.ItemRead.{ItemRead}
@@ -29,28 +28,22 @@ packed a = a .number + 256 * a .column + 65536 * a .line
 
 -- how a caller reads it: CLIEOP_ANSWER, CLIEOP_LINE and CLIEOP_COLUMN
 unfoldable pub unpacked : ℕ → Answer
-unpacked r = answer (r % 256) (r / 65536) (r / 256 % 256)
+unpacked r = record { number = r % 256; line = r / 65536; column = r / 256 % 256 }
 
 -- ## A file written again
 
-abbrev pub rewriteAnswer : Rewritten → Answer
-rewriteAnswer w = answer (w .answer) (w .line) (w .column)
-
--- how many bytes were written, told with 0 only
+-- how many bytes were written, with 0 only
 unfoldable pub writtenAfter : Rewritten → ℕ → ℕ
-writtenAfter w before = pick (eqb (w .answer) accepted) (w .written) before
+writtenAfter w before = pick (eqb (w .answer .number) accepted) (w .written) before
 
 -- what a caller finds: the answer, and with 0 how many bytes
 unfoldable pub rewriteBy : Answer → ℕ → Rewritten
-rewriteBy a written = told (a .number) (a .line) (a .column) (pick (eqb (a .number) accepted) written 0)
+rewriteBy a written = answered a (pick (eqb (a .number) accepted) written 0)
 
 abbrev pub rewriteFound : ℕ → ℕ → Rewritten
 rewriteFound r written = rewriteBy (unpacked r) written
 
 -- ## An item
-
-abbrev pub itemAnswer : ItemRead → Answer
-itemAnswer r = answer (r .answer) (r .line) (r .column)
 
 -- a type as a number; 'numbers are zero' where there is none
 unfoldable pub numberOf : TransactionType → ℕ
@@ -73,10 +66,10 @@ textsWith f texts = placed texts 128 (f .reference ++ f .name)
 
 -- 'A refusal .. leaves .. buffer untouched'
 unfoldable pub itemNumbers : ItemRead → List ℕ → List ℕ
-itemNumbers r numbers = pick (eqb (r .answer) accepted) (numbersWith (r .fields) numbers) numbers
+itemNumbers r numbers = pick (eqb (r .answer .number) accepted) (numbersWith (r .fields) numbers) numbers
 
 abbrev pub textsBy : ItemRead → List ℕ → List ℕ → List ℕ
-textsBy r texts described = pick (eqb (r .answer) accepted) (textsWith (r .fields) described) texts
+textsBy r texts described = pick (eqb (r .answer .number) accepted) (textsWith (r .fields) described) texts
 
 unfoldable pub itemTexts : List ℕ → ℕ → ℕ → List ℕ → ℕ → List ℕ
 itemTexts file batch item texts places = textsBy (itemAsked file batch item (length texts) places) texts (descriptionsAfter file batch item texts)
@@ -91,7 +84,7 @@ fieldsIn numbers texts = fieldsWith (typeOf (decimal 4 (getD numbers 0 0))) (get
 
 -- what a caller finds: the answer, and with 0 the fields in the lent numbers and texts
 unfoldable pub itemBy : Answer → List ℕ → List ℕ → ItemRead
-itemBy a numbers texts = toldItem (a .number) (a .line) (a .column) (pick (eqb (a .number) accepted) (fieldsIn numbers texts) noFields)
+itemBy a numbers texts = answeredItem a (pick (eqb (a .number) accepted) (fieldsIn numbers texts) noFields)
 
 abbrev pub itemFound : ℕ → List ℕ → List ℕ → ItemRead
 itemFound r numbers texts = itemBy (unpacked r) numbers texts
@@ -112,4 +105,4 @@ textsFound f texts = fieldsWith (f .kind) (f .amount) (f .payer) (f .beneficiary
 
 -- of an item that is handed out they are its own
 unfoldable pub Held : ItemRead → List ℕ → Type 0
-Held r texts = r .answer ≡ accepted → textsFound (r .fields) texts ≡ r .fields
+Held r texts = r .answer .number ≡ accepted → textsFound (r .fields) texts ≡ r .fields

@@ -5,14 +5,13 @@ ghost use Prim.Native.Nat.{_≤_};
 ghost use lib.ListN.{length};
 ghost use Rattle.items.specs.Answering.{itemOf};
 ghost use Rattle.items.specs.Promises.{Promised};
-ghost use Rattle.clieop_c.specs.Returned.{packed, typeNumber, numberOf, itemAnswer, itemAsked, numbersWith, textsWith, textsFound, itemNumbers, itemTexts, Held, itemFound, ItemPromised};
+ghost use Rattle.clieop_c.specs.Returned.{packed, typeNumber, numberOf, itemAsked, numbersWith, textsWith, textsFound, itemNumbers, itemTexts, Held, itemFound, ItemPromised};
 use crate::pack;
 use field::bytes::put;
 use format::TransactionType;
 use format::TypeRead;
 use items::ItemFields;
 use items::ItemRead;
-use reading::Answer;
 
 fn number_of(kind: TransactionType) -> u64
     ensures { λ r. ⌜ r ≡ numberOf kind ⌝ }
@@ -84,7 +83,7 @@ fn hand_out(file: &[u8], batch: u64, item: u64, texts: &mut [u8], numbers: &mut 
         return without_room(file, batch, item);
     }
     let r = items::item(file, batch, item, texts);
-    if r.answer == 0 {
+    if r.answer.number == 0 {
         let fields = r.fields;
         put_texts(fields, texts);
         put_numbers(fields, numbers);
@@ -102,17 +101,13 @@ pub extern "C" fn clieop_item(
     texts: &mut [u8],
     numbers: &mut [u64],
 ) -> u64
-    ensures number { λ r. ⌜ r ≡ packed (itemAnswer (itemAsked (now (file .entry)) batch item (length (now (texts .entry))) (length (now (numbers .entry))))) ⌝ }
+    ensures number { λ r. ⌜ r ≡ packed (itemAsked (now (file .entry)) batch item (length (now (texts .entry))) (length (now (numbers .entry))) .answer) ⌝ }
     ensures numbers { λ _. ⌜ now (numbers .exit) ≡ itemNumbers (itemAsked (now (file .entry)) batch item (length (now (texts .entry))) (length (now (numbers .entry)))) (now (numbers .entry)) ⌝ }
     ensures texts { λ _. ⌜ now (texts .exit) ≡ itemTexts (now (file .entry)) batch item (now (texts .entry)) (length (now (numbers .entry))) ⌝ }
     ensures found { λ r. ⌜ itemFound r (now (numbers .exit)) (now (texts .exit)) ≡ itemAsked (now (file .entry)) batch item (length (now (texts .entry))) (length (now (numbers .entry))) ⌝ }
     ensures meaning { λ r. ⌜ ItemPromised (now (file .entry)) batch item (now (texts .entry)) (itemFound r (now (numbers .exit)) (now (texts .exit))) (now (texts .exit)) (length (now (numbers .entry))) ⌝ }
 {
     let r = hand_out(file, batch, item, texts, numbers);
-    let a = Answer {
-        number: r.answer,
-        line: r.line,
-        column: r.column,
-    };
+    let a = r.answer;
     pack(a)
 }

@@ -7,8 +7,8 @@ ghost use Rattle.reading.specs.Check.{checkOf};
 ghost use Rattle.file.specs.Meaning.{Means};
 ghost use Rattle.rewriting.specs.Rewriting.{rewrittenOf, roomAfter};
 ghost use Rattle.rewriting.specs.Promises.{Promised};
-ghost use Rattle.clieop_c.specs.Returned.{packed, unpacked, rewriteAnswer, writtenAfter, rewriteFound};
-use reading::Answer;
+ghost use Rattle.clieop_c.specs.Returned.{packed, unpacked, writtenAfter, rewriteFound};
+use format::Answer;
 use rewriting::Rewritten;
 
 mod item;
@@ -32,7 +32,7 @@ fn pack(a: Answer) -> u64
 fn put_written(r: Rewritten, written: &mut u64)
     ensures { λ _. ⌜ now (written .exit) ≡ writtenAfter r (now (written .entry)) ⌝ }
 {
-    if r.answer == 0 {
+    if r.answer.number == 0 {
         *written = r.written as u64;
     }
 }
@@ -51,7 +51,7 @@ pub extern "C" fn clieop_check(file: &[u8]) -> u64
 // A file written again without its city records to the front of `out`, and to `written` how many bytes that are.
 #[no_mangle]
 pub extern "C" fn clieop_rewrite(file: &[u8], out: &mut [u8], written: &mut u64) -> u64
-    ensures number { λ r. ⌜ r ≡ packed (rewriteAnswer (rewrittenOf (now (file .entry)) (length (now (out .entry))))) ⌝ }
+    ensures number { λ r. ⌜ r ≡ packed (rewrittenOf (now (file .entry)) (length (now (out .entry))) .answer) ⌝ }
     ensures written { λ _. ⌜ now (written .exit) ≡ writtenAfter (rewrittenOf (now (file .entry)) (length (now (out .entry)))) (now (written .entry)) ⌝ }
     ensures bytes { λ _. ⌜ now (out .exit) ≡ roomAfter (now (file .entry)) (now (out .entry)) ⌝ }
     ensures found { λ r. ⌜ rewriteFound r (now (written .exit)) ≡ rewrittenOf (now (file .entry)) (length (now (out .entry))) ⌝ }
@@ -59,10 +59,6 @@ pub extern "C" fn clieop_rewrite(file: &[u8], out: &mut [u8], written: &mut u64)
 {
     let r = rewriting::rewrite(file, out);
     put_written(r, written);
-    let a = Answer {
-        number: r.answer,
-        line: r.line,
-        column: r.column,
-    };
+    let a = r.answer;
     pack(a)
 }

@@ -12,7 +12,7 @@ use Rattle.machine.specs.Lines.{Exactly, no-lines, one-more}
 use Rattle.format.specs.Rules.{isTestCode, daysIn, isDate, isDesiredDate, isIdentification, isOfDay, weighted, isEleven, isOrderingAccount, isAccount, isOwnIf, isNameCodeIn, typeOf, typeText}
 use Rattle.format.specs.Language.{Item, Batch, File, totalOf, accountsOf, tenDigits, Rec, itemsRecs, batchTrailerRec, batchesRecs, fileTrailerRecs, fileRecs, ItemOk, ItemsOk, Follows, BatchOk, BatchesOk, Valid, crlf, endBytes, lineOf, linesOf, Reads}
 use Rattle.format.specs.Cutting.{Fixed, unfixed, cut, turn}
-use Rattle.format.specs.Answers.{accepted}
+use Rattle.format.specs.Answers.{acceptance}
 use Rattle.format.specs.declared.Group.the-variants.{Payments}
 use Rattle.format.specs.declared.TransactionType.the-variants.{UncheckedSalary}
 use Rattle.format.proofs.Reader.{State, Path, end, go}
@@ -22,7 +22,6 @@ use Rattle.reading.specs.State.{maxLine}
 use Rattle.reading.specs.Step.{isWhole}
 use Rattle.reading.specs.Check.{checkOf}
 use Rattle.reading.proofs.Running.{whole-long}
-use Rattle.file.specs.Meaning.{answer}
 use Rattle.file.specs.Longest.{Longest}
 use Rattle.file.proofs.Run.{cutIf, cut-whole}
 use Rattle.file.proofs.Meaning.{language, lines-read, none-longer}
@@ -185,17 +184,17 @@ module _ (n : ℕ) (full : n ≡ 100000) where
     its-bytes : List ℕ
     its-bytes = linesOf (endBytes crlf) (fileRecs file)
 
-    taken : (n : ℕ) × (checkOf its-bytes ≡ answer accepted n 0)
+    taken : (n : ℕ) × (checkOf its-bytes ≡ acceptance n)
     unfolding its-bytes Reads
     taken = language its-bytes .1 (file, (valid, (crlf, refl)))
 
-    as-long : (b : List ℕ) × (checkOf b ≡ answer accepted 6999369995 0)
+    as-long : (b : List ℕ) × (checkOf b ≡ acceptance 6999369995)
     unfolding its-bytes
     as-long =
         let l = path-bytes (complete file valid) in
         let m = lines-bytes (lines-read its-bytes (taken .0) (taken .1)) in
         let e : taken .0 ≡ 6999369995 = omega (arith, records) in
-        (its-bytes, subst (λ j. checkOf its-bytes ≡ answer accepted j 0) e (taken .1))
+        (its-bytes, subst (λ j. checkOf its-bytes ≡ acceptance j) e (taken .1))
 
 -- THE LONGEST ACCEPTED FILE has 6,999,369,995 lines
 pub longest : Longest maxLine

@@ -5,21 +5,21 @@ use mathlib.Core.Logic.{_↔_, _≢_}
 use mathlib.Core.List.{List}
 use native.Mathlib.Omega.{arith}
 use Rattle.machine.proofs.Base as base
-use Rattle.format.specs.Answers.{accepted, beyondLimits}
+use Rattle.format.specs.Answers.{accepted, beyondLimits, refusal, acceptance}
+use Rattle.format.specs.declared.Answer.{Answer}
 use Rattle.format.specs.Cutting.{AreLines}
 use Rattle.format.specs.Statements.{InLanguage, RefusalTells}
 use Rattle.format.proofs.Theorem.{readFile}
 use Rattle.format.proofs.Theorem as the
 use Rattle.reading.specs.State.{maxLine}
 use Rattle.reading.specs.Check.{checkOf}
-use Rattle.reading.specs.declared.Answer.{Answer}
-use Rattle.file.specs.Meaning.{answer, Means}
+use Rattle.file.specs.Meaning.{Means}
 use Rattle.file.proofs.Counted.{each-counted}
 use Rattle.file.proofs.Run.{Says, yes, no, same-answer}
 
--- what the language's reader says is told by an answer that says the same
-told : (b : List ℕ) {a : Answer} {r : base.Answer} → Says a r → readFile b ≡ r → Means b a
-told b (yes n h) e =
+-- of an answer that says what the language's reader says
+means-as : (b : List ℕ) {a : Answer} {r : base.Answer} → Says a r → readFile b ≡ r → Means b a
+means-as b (yes n h) e =
     record {
       accepted-exactly = (λ z. the.language b .0 (n, e), λ f. refl);
       accepted-lines = λ z. (the.lines-read b n e, refl);
@@ -28,7 +28,7 @@ told b (yes n h) e =
       refusal = λ z. absurd (z refl);
       numbers = omega arith;
     }
-told b (no number n column h) e =
+means-as b (no number n column h) e =
     record {
       accepted-exactly = (λ z. absurd (omega arith), λ f. absurd (let w = the.language b .1 f in accepted≢refused (w .0) (sym (w .1) ∙ e)));
       accepted-lines = λ z. absurd (omega arith);
@@ -43,26 +43,26 @@ told b (no number n column h) e =
 
 -- THE ANSWER OF A FILE MEANS what is said of it
 pub means : (b : List ℕ) → Means b (checkOf b)
-means b = told b (same-answer b) refl
+means b = means-as b (same-answer b) refl
 
 -- ## The same of equal answers
 
 -- ACCEPTED exactly when it is in the language
-pub language : (b : List ℕ) → ((n : ℕ) × (checkOf b ≡ answer accepted n 0)) ↔ InLanguage b
+pub language : (b : List ℕ) → ((n : ℕ) × (checkOf b ≡ acceptance n)) ↔ InLanguage b
 language b = (
   λ a. means b .accepted-exactly .0 (ap (λ (r : Answer). r .number) (a .1)),
   λ f.
       let z = means b .accepted-exactly .1 f in
       let c = means b .accepted-lines z .1 in
-      (checkOf b .line, λ i. answer (z i) (checkOf b .line) (c i)),
+      (checkOf b .line, λ i. refusal (z i) (checkOf b .line) (c i)),
 )
 
 -- an acceptance names the number of lines
-pub lines-read : (b : List ℕ) (n : ℕ) → checkOf b ≡ answer accepted n 0 → AreLines n b
+pub lines-read : (b : List ℕ) (n : ℕ) → checkOf b ≡ acceptance n → AreLines n b
 lines-read b n e = subst (λ m. AreLines m b) (ap (λ (r : Answer). r .line) e) (means b .accepted-lines (ap (λ (r : Answer). r .number) e) .0)
 
 -- WHAT A REFUSAL TELLS
-pub refusals : (b : List ℕ) (number n column : ℕ) → number ≢ accepted → checkOf b ≡ answer number n column → RefusalTells b number n
+pub refusals : (b : List ℕ) (number n column : ℕ) → number ≢ accepted → checkOf b ≡ refusal number n column → RefusalTells b number n
 refusals b number n column z e = subst (λ (r : Answer). RefusalTells b (r .number) (r .line)) e (means b .refusal (λ w. z (sym (ap (λ (r : Answer). r .number) e) ∙ w)))
 
 -- NO FILE IS ANSWERED 24
@@ -70,10 +70,10 @@ pub never-beyond : (b : List ℕ) → checkOf b .number ≢ beyondLimits
 never-beyond b e = omega (arith, means b .numbers)
 
 -- no accepted file has more lines than 01's limit
-pub none-longer : (b : List ℕ) (n : ℕ) → checkOf b ≡ answer accepted n 0 → n ≤ maxLine
+pub none-longer : (b : List ℕ) (n : ℕ) → checkOf b ≡ acceptance n → n ≤ maxLine
 none-longer b n e = by (same-answer b) e
   where
-    by : {a : Answer} {r : base.Answer} → Says a r → a ≡ answer accepted n 0 → n ≤ maxLine
+    by : {a : Answer} {r : base.Answer} → Says a r → a ≡ acceptance n → n ≤ maxLine
     by (yes m h) e = subst (λ (r : Answer). r .line ≤ maxLine) e h
     by (no k m c h) e = let q : k ≡ 0 = ap (λ (r : Answer). r .number) e in absurd (omega arith)
 

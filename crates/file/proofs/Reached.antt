@@ -7,31 +7,26 @@ use mathlib.Core.Bool.{Bool, true, false}
 use native.Mathlib.Omega.{arith}
 use lib.ListN.{take}
 use Rattle.machine.specs.Lists.{pick}
-use Rattle.format.specs.Answers.{beyondLimits}
+use Rattle.format.specs.Answers.{beyondLimits, refusal, acceptance}
 use Rattle.format.specs.declared.Code.{Code}
 use Rattle.format.specs.declared.Code.the-variants.{Of, Unknown}
 use Rattle.reading.specs.State.{within}
-use Rattle.reading.specs.Step.{refused, judgedLine, isWhole, isDone, judgedFirst, nothingRead, readBy, endedAt, stepAt}
+use Rattle.reading.specs.Step.{refused, judgedLine, isWhole, isDone, judgedFirst, readBy, endedAt, stepAt}
 use Rattle.reading.specs.declared.State.{State}
 use Rattle.reading.specs.declared.Judged.{Judged}
-use Rattle.reading.specs.declared.LineRead.{LineRead}
 use Rattle.file.specs.Reached.{Reached, at-start, one-step}
 use Rattle.file.proofs.Lines.{Agrees, goes, stops, line-agrees}
 use Rattle.file.proofs.Reach.{Reach, reach-start, reach-within, reach-next}
 
 -- ## What a step makes of a state
 
--- from a state within the limits, the next and an answer of a file
-abbrev Told : State → LineRead → Type 0
-Told s r = (r .next ≡ s) × (r .answer ≤ 11)
-
-ended : (s : State) → within s ≡ true → Told s (endedAt s)
+ended : (s : State) → within s ≡ true → endedAt s .number ≤ 11
 unfolding endedAt pick
 ended s w = rw w (by (isDone s))
   where
-    by : (q : Bool) → Told s (pick q (nothingRead s 0 (s .line) 0) (nothingRead s 10 (s .line + 1) 0))
-    by true = (refl, omega arith)
-    by false = (refl, omega arith)
+    by : (q : Bool) → pick q (acceptance (s .line)) (refusal 10 (s .line + 1) 0) .number ≤ 11
+    by true = omega arith
+    by false = omega arith
 
 small-line : {s : State} {line : List ℕ} {j : Judged} → Agrees s line j → j .number ≤ 11
 small-line (goes k u e d) = omega arith
@@ -46,13 +41,13 @@ small-first s xs w = rw w (by (isDone s) (isWhole xs))
     by false true = small-line (line-agrees s (take 50 xs))
     by false false = omega arith
 
-read : (line : List ℕ) (c : Code) (j : Judged) → j .number ≤ 11 → Told (j .next) (readBy line c j)
-read line (Of k) j h = (refl, h)
+read : (line : List ℕ) (c : Code) (j : Judged) → j .number ≤ 11 → (readBy line c j .next ≡ j .next) × (readBy line c j .answer .number ≤ 11)
+read line (Of k) j h = (refl, omega arith)
 read line Unknown j h = (refl, h)
 
-reach-step : (s : State) (xs : List ℕ) → Reach s → Reach (stepAt s xs .next) × (stepAt s xs .answer ≤ 11)
+reach-step : (s : State) (xs : List ℕ) → Reach s → Reach (stepAt s xs .next) × (stepAt s xs .answer .number ≤ 11)
 unfolding stepAt
-reach-step s [] i = let t = ended s (reach-within s i) in (subst Reach (sym (t .0)) i, t .1)
+reach-step s [] i = (i, ended s (reach-within s i))
 reach-step s (x ∷ xs) i =
     let j = judgedFirst s (x ∷ xs) in
     let t = read (take 50 (x ∷ xs)) (j .code) j (small-first s (x ∷ xs) (reach-within s i)) in
@@ -67,5 +62,5 @@ pub reached-within : {s : State} → Reached s → within s ≡ true
 reached-within {s} r = reach-within s (reached r)
 
 -- NO STEP OF A RUN IS ANSWERED 24
-pub reached-answers : {s : State} → Reached s → (bytes : List ℕ) → stepAt s bytes .answer ≢ beyondLimits
+pub reached-answers : {s : State} → Reached s → (bytes : List ℕ) → stepAt s bytes .answer .number ≢ beyondLimits
 reached-answers {s} r bytes e = omega (arith, reach-step s bytes (reached r) .1)

@@ -17,6 +17,8 @@ use Rattle.machine.proofs.Lines.{follow, on-line, run}
 use Rattle.machine.proofs.Lines as lines
 use Rattle.format.specs.Language.{In}
 use Rattle.format.specs.Cutting.{unfixed, cut, turn, rowsFrom, rows}
+use Rattle.format.specs.Answers.{refusal, acceptance}
+use Rattle.format.specs.declared.Answer.{Answer}
 use Rattle.format.specs.declared.Group.{Group}
 use Rattle.format.specs.declared.Group.the-variants.{Payments, Debits}
 use Rattle.format.proofs.Reader.{Room, ended, isEnd, step}
@@ -29,13 +31,11 @@ use Rattle.reading.specs.declared.Name.{Name}
 use Rattle.reading.specs.declared.Name.the-variants.{Unwanted, Due, Read, Past}
 use Rattle.reading.specs.declared.State.{State}
 use Rattle.reading.specs.declared.Judged.{Judged}
-use Rattle.reading.specs.declared.Answer.{Answer}
 use Rattle.reading.specs.State.{startState, isLimited, within}
 use Rattle.reading.specs.Order.{isStage}
 use Rattle.reading.specs.Step.{refused, taken, judgedLine, isWhole, isDone, judgedFirst, endedAt}
 use Rattle.reading.specs.Check.{linesBy, linesOf, answerBy, checkOf, restOf}
 use Rattle.reading.proofs.Running.{goingOn, lines-on}
-use Rattle.file.specs.Meaning.{answer}
 use Rattle.file.proofs.Places.{phaseIn, phaseOf, contextOf, placeOf, roomOf}
 use Rattle.file.proofs.Faults.{drop-take}
 use Rattle.file.proofs.Lines.{Agrees, goes, stops, line-agrees}
@@ -43,8 +43,8 @@ use Rattle.file.proofs.Reach.{Reach, reach-start, reach-line, reach-wit
 
 -- the same answer
 pub data Says : Answer → base.Answer → Type 0 where
-  yes : (n : ℕ) → n ≤ 6999369995 → Says (answer 0 n 0) (base.accepted n)
-  no : (number n column : ℕ) → In 1 11 number → Says (answer number n column) (base.refused number n column)
+  yes : (n : ℕ) → n ≤ 6999369995 → Says (acceptance n) (base.accepted n)
+  no : (number n column : ℕ) → In 1 11 number → Says (refusal number n column) (base.refused number n column)
 
 -- ## The end of a file
 

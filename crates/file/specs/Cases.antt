@@ -11,7 +11,8 @@ use Rattle.machine.specs.Texts.{characters}
 use Rattle.descriptions.specs.Texts.{mergeOf}
 use Rattle.format.specs.Rules.{maxAmount, mostDescriptions, weighted, isEleven, isDate, typeText}
 use Rattle.format.specs.Language.{File, Rec, batchHeaderRec, batchTrailerRec, crlf, endBytes, lineOf, Reads}
-use Rattle.format.specs.Answers.{accepted, wrongValue, wrongAccount, differs, aboveMaximum, endsEarly}
+use Rattle.format.specs.Answers.{accepted, wrongValue, wrongAccount, differs, aboveMaximum, endsEarly, refusal, acceptance}
+use Rattle.format.specs.declared.Answer.{Answer}
 use Rattle.format.specs.declared.Kind.the-variants.{Transaction}
 use Rattle.format.specs.declared.Group.{Group}
 use Rattle.format.specs.declared.Group.the-variants.{Payments, Debits}
@@ -26,8 +27,6 @@ use Rattle.reading.specs.Check.{checkOf}
 use Rattle.reading.specs.declared.Stage.the-variants.{Ordered}
 use Rattle.reading.specs.declared.State.{State}
 use Rattle.reading.specs.declared.LineRead.{LineRead}
-use Rattle.reading.specs.declared.Answer.{Answer}
-use Rattle.file.specs.Meaning.{answer}
 use Rattle.file.specs.Example.{example, exampleFile}
 
 pub data Case : Type 0 where
@@ -102,12 +101,12 @@ Holds (date day exists) = isDate day ≡ exists
 Holds (line p b r fault) = faultOf p b (r .0) (lineText r) ≡ fault
 Holds (accountSum payer beneficiary sum accounts digits) =
     (payer + beneficiary ≡ sum)
-    × (paidOne payer beneficiary .answer ≡ accepted)
+    × (paidOne payer beneficiary .answer .number ≡ accepted)
     × (paidOne payer beneficiary .next .batch .accounts ≡ accounts)
     × (take 10 (drop 23 (lineText (trailer accounts))) ≡ characters digits)
-    × (stepAt (paidOne payer beneficiary .next) (lineBytes (trailer accounts)) .answer ≡ accepted)
+    × (stepAt (paidOne payer beneficiary .next) (lineBytes (trailer accounts)) .answer .number ≡ accepted)
 Holds (merging reference fixed own handed) = mergeOf (mostDescriptions reference) fixed own ≡ handed
-Holds (file bytes told) = checkOf bytes ≡ told
+Holds (file bytes answer) = checkOf bytes ≡ answer
 Holds (reading bytes f) = Reads bytes f
 
 abbrev pub Each : List Case → Type 0
@@ -174,8 +173,8 @@ sequenceCases =
 -- 10, and the example
 abbrev pub fileCases : List Case
 fileCases =
-    file [] (answer endsEarly 1 0)
-    ∷ file example (answer accepted 9 0)
+    file [] (refusal endsEarly 1 0)
+    ∷ file example (acceptance 9)
     ∷ reading example exampleFile
     ∷ []
 

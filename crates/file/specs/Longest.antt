@@ -2,10 +2,9 @@
 use mathlib.Core.Path.{_≡_}
 use mathlib.Core.List.{List}
 use Prim.Native.Nat.{ℕ, _≤_}
-use Rattle.format.specs.Answers.{accepted}
+use Rattle.format.specs.Answers.{acceptance}
 use Rattle.reading.specs.Check.{checkOf}
-use Rattle.file.specs.Meaning.{answer}
 
 pub record Longest (lines : ℕ) : Type 0 where
-  pub none-longer : (b : List ℕ) (n : ℕ) → checkOf b ≡ answer accepted n 0 → n ≤ lines
-  pub one-as-long : (b : List ℕ) × (checkOf b ≡ answer accepted lines 0)
+  pub none-longer : (b : List ℕ) (n : ℕ) → checkOf b ≡ acceptance n → n ≤ lines
+  pub one-as-long : (b : List ℕ) × (checkOf b ≡ acceptance lines)

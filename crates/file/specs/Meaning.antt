@@ -7,11 +7,8 @@ use Rattle.format.specs.Language.{File, fileRecs, Reads}
 use Rattle.format.specs.Answers.{accepted, afterTrailer}
 use Rattle.format.specs.Cutting.{AreLines}
 use Rattle.format.specs.Statements.{InLanguage, RefusalTells}
-use Rattle.reading.specs.declared.Answer.{Answer}
+use Rattle.format.specs.declared.Answer.{Answer}
 use Rattle.file.specs.Counted.{EachCounted}
-
-abbrev pub answer : ℕ → ℕ → ℕ → Answer
-answer number line column = record { number = number; line = line; column = column }
 
 pub record Means (b : List ℕ) (a : Answer) : Type 0 where
   -- ACCEPTED exactly when the bytes are those of a file of the language

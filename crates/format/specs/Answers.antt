@@ -1,5 +1,6 @@
--- The answers of 01's table by name.
+-- The answers of 01's table by name, and an answer with its line and column.
 use Prim.Native.Nat.{ℕ}
+use Rattle.format.specs.declared.Answer.{Answer}
 
 abbrev pub accepted : ℕ
 accepted = 0
@@ -59,3 +60,10 @@ noSuchItem = 13
 -- 'a state handed in' beyond 01's limits
 abbrev pub beyondLimits : ℕ
 beyondLimits = 24
+
+abbrev pub refusal : ℕ → ℕ → ℕ → Answer
+refusal number line column = record { number = number; line = line; column = column }
+
+-- after so many lines
+abbrev pub acceptance : ℕ → Answer
+acceptance line = refusal accepted line 0

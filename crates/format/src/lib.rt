@@ -1,5 +1,6 @@
 // The names of document 01 that code and definitions share: the kinds of record, the groups, the transaction types, the answers and limits.
 ghost use mathlib.Core.Path.{_≡_};
+ghost use Rattle.format.specs.Answers.{refusal, acceptance};
 ghost use Rattle.format.specs.Rules.{mostDescriptions};
 
 pub mod codes;
@@ -50,7 +51,37 @@ pub enum Code {
     Unknown,
 }
 
-// The answers of 01's table.
+// What is answered: a number of 01's table, the line and the column that it names, each 0 where it names none.
+pub struct Answer {
+    pub number: u8,
+    pub line: u64,
+    pub column: u8,
+}
+
+impl Answer {
+    pub fn refusal(number: u8, line: u64, column: u8) -> Answer
+        ensures { λ r. ⌜ r ≡ refusal number line column ⌝ }
+    {
+        Answer {
+            number,
+            line,
+            column,
+        }
+    }
+
+    // After so many lines.
+    pub fn accepted(line: u64) -> Answer
+        ensures { λ r. ⌜ r ≡ acceptance line ⌝ }
+    {
+        Answer {
+            number: ACCEPTED,
+            line,
+            column: 0,
+        }
+    }
+}
+
+// The numbers of 01's table.
 pub const ACCEPTED: u8 = 0;
 
 pub const BROKEN_LINE: u8 = 1;

@@ -8,41 +8,42 @@ use borrow.Author.Needs.{needs}
 use borrow.Author.Tests.{eq-eqb, ne-eqb, le-leb, lt-leb}
 use lib.ListN.{length, drop}
 use Rattle.machine.specs.Lists.{pick, putIn}
+use Rattle.format.specs.Answers.{refusal}
+use Rattle.format.specs.declared.Answer.{Answer}
 use Rattle.format.specs.Cutting.{rows}
 use Rattle.format.specs.Rules.{mostDescriptions}
 use Rattle.field.proofs.Putting.{put-front}
 use Rattle.reading.specs.Check.{checkOf}
-use Rattle.reading.specs.declared.Answer.{Answer}
 use Rattle.descriptions.specs.Texts.{merged}
 use Rattle.descriptions.specs.declared.Descriptions.{Descriptions}
 use Rattle.items.specs.Search.{noFields, started, afterRows}
-use Rattle.items.specs.Answering.{told, isFound, textsFound, answeredBy, roomBy, isWithin, answeredAt, roomAt, itemOf, roomAfter}
+use Rattle.items.specs.Answering.{answered, isFound, textsFound, answeredBy, roomBy, isWithin, answeredAt, roomAt, itemOf, roomAfter}
 use Rattle.items.specs.declared.ItemFields.{ItemFields}
 use Rattle.items.specs.declared.Found.{Found}
 use Rattle.items.specs.declared.Search.{Search}
 use Rattle.items.specs.declared.ItemRead.{ItemRead}
 
-pub told-made : {x y : ItemFields} (number line column : ℕ) → x ≡ y → told number line column x ≡ told number line column y
-told-made number line column e = rw e
+pub answered-with : {x y : ItemFields} (a : Answer) → x ≡ y → answered a x ≡ answered a y
+answered-with a e = rw e
 
 pub texts-via : {n : ℕ} {d : Descriptions} (f : Found) → n ≡ mostDescriptions (f .referred) → d ≡ merged (f .fixed) (f .own) n → d .text ≡ textsFound f
 unfolding textsFound
 texts-via f e h = ap (λ (x : Descriptions). x .text) (h ∙ ap (merged (f .fixed) (f .own)) e)
 
 module _ (s : Search) (a : Answer) (room : ℕ) where
-  pub by-refusal : {w : ItemRead} → (a .number ≡ 0 → ⊥) → w ≡ told (a .number) (a .line) (a .column) noFields → w ≡ answeredBy s a room
+  pub by-refusal : {w : ItemRead} → (a .number ≡ 0 → ⊥) → w ≡ answered a noFields → w ≡ answeredBy s a room
   unfolding answeredBy pick
   by-refusal z h = h ∙ rw (ne-eqb _ _ z)
 
-  pub by-none : {w : ItemRead} {q : Bool} → a .number ≡ 0 → q ≡ isFound (s .found .fields .kind) → q ≡ false → w ≡ told 13 (a .line) 0 noFields → w ≡ answeredBy s a room
+  pub by-none : {w : ItemRead} {b : Answer} {q : Bool} → a .number ≡ 0 → q ≡ isFound (s .found .fields .kind) → q ≡ false → b ≡ refusal 13 (a .line) 0 → w ≡ answered b noFields → w ≡ answeredBy s a room
   unfolding answeredBy pick
-  by-none z e f h = h ∙ rw (eq-eqb _ _ z, ← e, f)
+  by-none z e f g h = h ∙ ap (λ b. answered b noFields) g ∙ rw (eq-eqb _ _ z, ← e, f)
 
-  pub by-room : {w : ItemRead} {q : Bool} → a .number ≡ 0 → q ≡ isFound (s .found .fields .kind) → q ≡ true → room < 128 → w ≡ told 12 (a .line) 0 noFields → w ≡ answeredBy s a room
+  pub by-room : {w : ItemRead} {b : Answer} {q : Bool} → a .number ≡ 0 → q ≡ isFound (s .found .fields .kind) → q ≡ true → room < 128 → b ≡ refusal 12 (a .line) 0 → w ≡ answered b noFields → w ≡ answeredBy s a room
   unfolding answeredBy pick
-  by-room z e f l h = h ∙ rw (eq-eqb _ _ z, ← e, f, lt-leb 128 room l)
+  by-room z e f l g h = h ∙ ap (λ b. answered b noFields) g ∙ rw (eq-eqb _ _ z, ← e, f, lt-leb 128 room l)
 
-  pub by-item : {q : Bool} → a .number ≡ 0 → q ≡ isFound (s .found .fields .kind) → q ≡ true → 128 ≤ room → told 0 (a .line) 0 (s .found .fields) ≡ answeredBy s a room
+  pub by-item : {q : Bool} → a .number ≡ 0 → q ≡ isFound (s .found .fields .kind) → q ≡ true → 128 ≤ room → answered a (s .found .fields) ≡ answeredBy s a room
   unfolding answeredBy pick
   by-item z e f l = rw (eq-eqb _ _ z, ← e, f, le-leb 128 room l)
 
@@ -72,9 +73,9 @@ module _ {q : Bool} (s : Search) (a : Answer) (e : q ≡ isWithin (s .found)) wh
   unfolding answeredAt pick
   at-within room f h = h ∙ rw (← e, f)
 
-  pub at-beyond : {w : ItemRead} (room : ℕ) → q ≡ false → w ≡ told 24 0 0 noFields → w ≡ answeredAt s a room
+  pub at-beyond : {w : ItemRead} {b : Answer} (room : ℕ) → q ≡ false → b ≡ refusal 24 0 0 → w ≡ answered b noFields → w ≡ answeredAt s a room
   unfolding answeredAt pick
-  at-beyond room f h = h ∙ rw (← e, f)
+  at-beyond room f g h = h ∙ ap (λ b. answered b noFields) g ∙ rw (← e, f)
 
   pub room-within : {o : List ℕ} (out : List ℕ) → q ≡ true → o ≡ roomBy s a out → o ≡ roomAt s a out
   unfolding roomAt pick

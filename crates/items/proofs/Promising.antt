@@ -21,14 +21,15 @@ use Rattle.format.proofs.Complete.{complete}
 use Rattle.record.specs.Read.{transactionFor}
 use Rattle.record.specs.declared.TransactionFields.{TransactionFields}
 use Rattle.reading.specs.Check.{checkOf}
-use Rattle.reading.specs.declared.Answer.{Answer}
+use Rattle.format.specs.Answers.{refusal, acceptance}
+use Rattle.format.specs.declared.Answer.{Answer}
 use Rattle.reading.proofs.Judgements.{four-at-most}
 use Rattle.file.proofs.Meaning.{means}
 use Rattle.descriptions.specs.Texts.{noTexts, inPlaces, merged, textFrom}
 use Rattle.descriptions.specs.declared.Descriptions.{Descriptions}
 use Rattle.descriptions.proofs.Lists.{Full, full-more, with-places, merged-places}
 use Rattle.items.specs.Search.{filledTo, noFields, nothingFound, withItem, started, afterRows}
-use Rattle.items.specs.Answering.{told, isFound, textsFound, answeredBy, roomBy}
+use Rattle.items.specs.Answering.{answered, isFound, textsFound, answeredBy, roomBy}
 use Rattle.items.specs.Promises.{nth, ItemAt, itemWith, itemOfBatch, itemAt, referenceFor, nameFor, fieldsFor, textsFor, handedOut, roomWith, Promised}
 use Rattle.items.specs.declared.ItemFields.{ItemFields}
 use Rattle.items.specs.declared.Found.{Found}
@@ -145,22 +146,24 @@ reading-finds file f b n r =
 
 -- ## The answer, and the room
 
-answer-of : (s : Search) (a : Answer) (room : ℕ) → a .number ≡ 0 → (x : Option ItemAt) → Finds (s .found) x → answeredBy s a room ≡ handedOut (a .line) x room
+answer-of : (s : Search) (a : Answer) (room : ℕ) → a .number ≡ 0 → a .column ≡ 0 → (x : Option ItemAt) → Finds (s .found) x → answeredBy s a room ≡ handedOut (a .line) x room
 unfolding answeredBy pick
-answer-of s a room z none h = rw (eq-eqb _ _ z, h)
-answer-of s a room z (some x) h = rw (eq-eqb _ _ z, h .0) (ap (λ y. pick (leb 128 room) (told 0 (a .line) 0 y) (told 12 (a .line) 0 noFields)) (h .1 .0))
+answer-of s a room z c none h = rw (eq-eqb _ _ z, h)
+answer-of s a room z c (some x) h =
+    let b : a ≡ acceptance (a .line) = λ i. refusal (z i) (a .line) (c i) in
+    rw (eq-eqb _ _ z, h .0) (ap₂ (λ b y. pick (leb 128 room) (answered b y) (answered (refusal 12 (a .line) 0) noFields)) b (h .1 .0))
 
 room-of : (s : Search) (a : Answer) (out : List ℕ) → a .number ≡ 0 → (x : Option ItemAt) → Finds (s .found) x → roomBy s a out ≡ roomWith x out
 unfolding roomBy pick
 room-of s a out z none h = rw (eq-eqb _ _ z, h)
 room-of s a out z (some x) h = rw (eq-eqb _ _ z, h .0) (ap (λ y. pick (leb 128 (length out)) (y ++ drop 128 out) out) (h .1 .1))
 
-handed-line : (n : ℕ) (x : Option ItemAt) (room : ℕ) → handedOut n x room .line ≡ n
+handed-line : (n : ℕ) (x : Option ItemAt) (room : ℕ) → handedOut n x room .answer .line ≡ n
 unfolding pick
 handed-line n none room = refl
 handed-line n (some x) room = by (leb 128 room)
   where
-    by : (q : Bool) → pick q (told 0 n 0 (fieldsFor (x .item))) (told 12 n 0 noFields) .line ≡ n
+    by : (q : Bool) → pick q (answered (acceptance n) (fieldsFor (x .item))) (answered (refusal 12 n 0) noFields) .answer .line ≡ n
     by true = refl
     by false = refl
 
@@ -169,39 +172,41 @@ module _ (file : List ℕ) (batch item : ℕ) where
   searched = afterRows (started batch item) (rows file)
 
   module _ (room : ℕ) where
-    answer : ItemRead
-    answer = answeredBy searched (checkOf file) room
+    asked : ItemRead
+    asked = answeredBy searched (checkOf file) room
 
-    told-of : (f : File) → Reads file f → answer ≡ handedOut (checkOf file .line) (itemAt f batch item) room
-    unfolding answer searched
-    told-of f r = answer-of (afterRows (started batch item) (rows file)) (checkOf file) room (means file .accepted-exactly .1 (f, r)) (itemAt f batch item) (reading-finds file f batch item r)
+    handed-of : (f : File) → Reads file f → asked ≡ handedOut (checkOf file .line) (itemAt f batch item) room
+    unfolding asked searched
+    handed-of f r =
+        let z = means file .accepted-exactly .1 (f, r) in
+        answer-of (afterRows (started batch item) (rows file)) (checkOf file) room z (means file .accepted-lines z .1) (itemAt f batch item) (reading-finds file f batch item r)
 
-    line-of : InLanguage file → answer .line ≡ checkOf file .line
-    line-of l = ap (λ (r : ItemRead). r .line) (told-of (l .0) (l .1)) ∙ handed-line (checkOf file .line) (itemAt (l .0) batch item) room
+    line-of : InLanguage file → asked .answer .line ≡ checkOf file .line
+    line-of l = ap (λ (r : ItemRead). r .answer .line) (handed-of (l .0) (l .1)) ∙ handed-line (checkOf file .line) (itemAt (l .0) batch item) room
 
   not-accepted : (InLanguage file → ⊥) → checkOf file .number ≡ 0 → ⊥
   not-accepted n z = n (means file .accepted-exactly .0 z)
 
-  refused-of : (room : ℕ) → (InLanguage file → ⊥) → answer room ≡ told (checkOf file .number) (checkOf file .line) (checkOf file .column) noFields
-  unfolding answer searched
+  refused-of : (room : ℕ) → (InLanguage file → ⊥) → asked room ≡ answered (checkOf file) noFields
+  unfolding asked searched
   refused-of room n = sym (by-refusal (afterRows (started batch item) (rows file)) (checkOf file) room (not-accepted n) refl)
 
-  promised : (out : List ℕ) → Promised file batch item out (answer (length out)) (roomBy searched (checkOf file) out)
+  promised : (out : List ℕ) → Promised file batch item out (asked (length out)) (roomBy searched (checkOf file) out)
   unfolding searched
   promised out =
       record {
-        handed = λ f r. told-of (length out) f r ∙ ap (λ n. handedOut n (itemAt f batch item) (length out)) (sym (line-of (length out) (f, r)));
+        handed = λ f r. handed-of (length out) f r ∙ ap (λ n. handedOut n (itemAt f batch item) (length out)) (sym (line-of (length out) (f, r)));
         written = λ f r. room-of (afterRows (started batch item) (rows file)) (checkOf file) out (means file .accepted-exactly .1 (f, r)) (itemAt f batch item) (reading-finds file f batch item r);
         lines = λ l. subst (λ n. AreLines n file) (sym (line-of (length out) l)) (means file .accepted-lines (means file .accepted-exactly .1 l) .0);
-        refusal = λ n. let e = refused-of (length out) n in (λ z. not-accepted n (sym (ap (λ (r : ItemRead). r .answer) e) ∙ z), e);
+        refusal = λ n. let e = refused-of (length out) n in (λ z. not-accepted n (sym (ap (λ (r : ItemRead). r .answer .number) e) ∙ z), e);
         untouched = λ n. sym (room-refused (afterRows (started batch item) (rows file)) (checkOf file) out (not-accepted n));
       }
 
   -- of the function's own result
   pub promised-via : {s t : Search} {a : Answer} {w : ItemRead} {o : List ℕ} (out : List ℕ) → a ≡ checkOf file → s ≡ started batch item → t ≡ afterRows s (rows file) → w ≡ answeredBy t a (length out) → o ≡ roomBy t a out → Promised file batch item out w o
-  unfolding answer searched
+  unfolding asked searched
   promised-via {w = w} out e f g h k =
       let u = g ∙ ap (λ x. afterRows x (rows file)) f in
-      let p : w ≡ answer (length out) = h ∙ ap₂ (λ x y. answeredBy x y (length out)) u e in
+      let p : w ≡ asked (length out) = h ∙ ap₂ (λ x y. answeredBy x y (length out)) u e in
       let q = k ∙ ap₂ (λ x y. roomBy x y out) u e in
       subst (Promised file batch item out w) (sym q) (subst (λ x. Promised file batch item out x (roomBy searched (checkOf file) out)) (sym p) (promised out))

@@ -1,17 +1,17 @@
--- HOW THE ANSWER IS FOUND: what is told to one who asks for an item after the search, and the lent room then. What to believe of the answer is said in Promises.antt.
+-- HOW THE ANSWER IS FOUND: what is answered to one who asks for an item after the search, and the lent room then. What to believe of the answer is said in Promises.antt.
 use Prim.Native.Nat.{ℕ}
 use mathlib.Core.List.{List, _++_}
 use mathlib.Core.Bool.{Bool, true, false, _&&_}
 use lib.ListN.{length, drop}
 use lib.Dec.{leb, eqb}
 use Rattle.machine.specs.Lists.{pick}
-use Rattle.format.specs.Answers.{accepted, noRoom, noSuchItem, beyondLimits}
+use Rattle.format.specs.Answers.{accepted, noRoom, noSuchItem, beyondLimits, refusal}
+use Rattle.format.specs.declared.Answer.{Answer}
 use Rattle.format.specs.Cutting.{rows}
 use Rattle.format.specs.Rules.{maxFixed, maxDescriptions, mostDescriptions}
 use Rattle.format.specs.declared.TypeRead.{TypeRead}
 use Rattle.format.specs.declared.TypeRead.the-variants.{Of, NoType}
 use Rattle.reading.specs.Check.{checkOf}
-use Rattle.reading.specs.declared.Answer.{Answer}
 use Rattle.descriptions.specs.Texts.{merged}
 use Rattle.items.specs.Search.{noFields, started, afterRows}
 use Rattle.items.specs.declared.ItemFields.{ItemFields}
@@ -19,8 +19,8 @@ use Rattle.items.specs.declared.Found.{Found}
 use Rattle.items.specs.declared.Search.{Search}
 use Rattle.items.specs.declared.ItemRead.{ItemRead}
 
-abbrev pub told : ℕ → ℕ → ℕ → ItemFields → ItemRead
-told number line column fields = record { answer = number; line = line; column = column; fields = fields }
+abbrev pub answered : Answer → ItemFields → ItemRead
+answered a fields = record { answer = a; fields = fields }
 
 abbrev pub isFound : TypeRead → Bool
 isFound (Of y) = true
@@ -35,10 +35,10 @@ unfoldable pub answeredBy : Search → Answer → ℕ → ItemRead
 answeredBy s a room =
     pick (eqb (a .number) accepted)
     (pick (isFound (s .found .fields .kind))
-    (pick (leb 128 room) (told accepted (a .line) 0 (s .found .fields))
-    (told noRoom (a .line) 0 noFields))
-    (told noSuchItem (a .line) 0 noFields))
-    (told (a .number) (a .line) (a .column) noFields)
+    (pick (leb 128 room) (answered a (s .found .fields))
+    (answered (refusal noRoom (a .line) 0) noFields))
+    (answered (refusal noSuchItem (a .line) 0) noFields))
+    (answered a noFields)
 
 -- 'They fill the first 128 bytes of a lent buffer ..; bytes beyond stay'
 unfoldable pub roomBy : Search → Answer → List ℕ → List ℕ
@@ -55,7 +55,7 @@ unfoldable pub isWithin : Found → Bool
 isWithin f = leb (f .fixed .count) maxFixed && leb (f .own .count) maxDescriptions
 
 unfoldable pub answeredAt : Search → Answer → ℕ → ItemRead
-answeredAt s a room = pick (isWithin (s .found)) (answeredBy s a room) (told beyondLimits 0 0 noFields)
+answeredAt s a room = pick (isWithin (s .found)) (answeredBy s a room) (answered (refusal beyondLimits 0 0) noFields)
 
 unfoldable pub roomAt : Search → Answer → List ℕ → List ℕ
 roomAt s a out = pick (isWithin (s .found)) (roomBy s a out) out

@@ -7,7 +7,7 @@ use Prim.Native.Nat.{ℕ, zero, suc}
 use lib.ListN.{length, take, drop}
 use lib.Dec.{leb}
 use Rattle.machine.specs.Lists.{pick, spaces}
-use Rattle.format.specs.Answers.{accepted, noRoom, noSuchItem}
+use Rattle.format.specs.Answers.{accepted, noRoom, noSuchItem, refusal, acceptance}
 use Rattle.format.specs.Rules.{mostDescriptions, typeOf}
 use Rattle.format.specs.Language.{Name, Item, Batch, File, isSome, Reads}
 use Rattle.format.specs.Cutting.{AreLines}
@@ -15,7 +15,7 @@ use Rattle.format.specs.Statements.{InLanguage}
 use Rattle.reading.specs.Check.{checkOf}
 use Rattle.descriptions.specs.Texts.{mergeOf, inPlaces}
 use Rattle.items.specs.Search.{noFields}
-use Rattle.items.specs.Answering.{told}
+use Rattle.items.specs.Answering.{answered}
 use Rattle.items.specs.declared.ItemFields.{ItemFields}
 use Rattle.items.specs.declared.ItemRead.{ItemRead}
 
@@ -71,8 +71,8 @@ textsFor x = inPlaces (spaces 128) (mergeOf (mostDescriptions (isSome (x .item .
 
 -- the item's fields, 12 where the room is too small, 13 where there is no such item
 abbrev pub handedOut : ℕ → Option ItemAt → ℕ → ItemRead
-handedOut lines none room = told noSuchItem lines 0 noFields
-handedOut lines (some x) room = pick (leb 128 room) (told accepted lines 0 (fieldsFor (x .item))) (told noRoom lines 0 noFields)
+handedOut lines none room = answered (refusal noSuchItem lines 0) noFields
+handedOut lines (some x) room = pick (leb 128 room) (answered (acceptance lines) (fieldsFor (x .item))) (answered (refusal noRoom lines 0) noFields)
 
 abbrev pub roomWith : Option ItemAt → List ℕ → List ℕ
 roomWith none out = out
@@ -81,9 +81,9 @@ roomWith (some x) out = pick (leb 128 (length out)) (textsFor x ++ drop 128 out)
 -- an answer to one who asks for an item of a file, and the room after it
 pub record Promised (file : List ℕ) (batch item : ℕ) (out : List ℕ) (r : ItemRead) (after : List ℕ) : Type 0 where
   -- of a file of the language, by its reading: that item; the line is the number of lines
-  pub handed : (f : File) → Reads file f → r ≡ handedOut (r .line) (itemAt f batch item) (length out)
+  pub handed : (f : File) → Reads file f → r ≡ handedOut (r .answer .line) (itemAt f batch item) (length out)
   pub written : (f : File) → Reads file f → after ≡ roomWith (itemAt f batch item) out
-  pub lines : InLanguage file → AreLines (r .line) file
+  pub lines : InLanguage file → AreLines (r .answer .line) file
   -- of other bytes: the file's own refusal, and the room as it was
-  pub refusal : (InLanguage file → ⊥) → (r .answer ≢ accepted) × (r ≡ told (checkOf file .number) (checkOf file .line) (checkOf file .column) noFields)
+  pub refusal : (InLanguage file → ⊥) → (r .answer .number ≢ accepted) × (r ≡ answered (checkOf file) noFields)
   pub untouched : (InLanguage file → ⊥) → after ≡ out

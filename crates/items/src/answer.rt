@@ -2,7 +2,7 @@
 ghost use mathlib.Core.Path.{_≡_};
 ghost use lib.ListN.{length};
 ghost use Rattle.items.specs.Search.{noFields};
-ghost use Rattle.items.specs.Answering.{told, isFound, textsFound, answeredBy, roomBy, isWithin, answeredAt, roomAt, itemOf, roomAfter};
+ghost use Rattle.items.specs.Answering.{answered, isFound, textsFound, answeredBy, roomBy, isWithin, answeredAt, roomAt, itemOf, roomAfter};
 ghost use Rattle.items.specs.Promises.{Promised};
 use crate::Found;
 use crate::ItemRead;
@@ -10,8 +10,8 @@ use crate::Search;
 use crate::no_fields;
 use descriptions::merge;
 use field::bytes::put;
+use format::Answer;
 use format::TypeRead;
-use reading::Answer;
 use record::Batch;
 
 fn is_found(kind: TypeRead) -> bool
@@ -23,16 +23,11 @@ fn is_found(kind: TypeRead) -> bool
     }
 }
 
-fn refusal(answer: u8, line: u64, column: u8) -> ItemRead
-    ensures { λ r. ⌜ r ≡ told answer line column noFields ⌝ }
+fn refused(answer: Answer) -> ItemRead
+    ensures { λ r. ⌜ r ≡ answered answer noFields ⌝ }
 {
     let fields = no_fields();
-    ItemRead {
-        answer,
-        line,
-        column,
-        fields,
-    }
+    ItemRead { answer, fields }
 }
 
 impl Found {
@@ -58,30 +53,28 @@ impl Found {
 
 impl Search {
     // By the file's own answer: its refusal; 13; 12; or the item, with its descriptions in the first 128 bytes of the room.
-    fn told(self, file: Answer, out: &mut [u8]) -> ItemRead
+    fn hand_out(self, file: Answer, out: &mut [u8]) -> ItemRead
         ensures answer { λ r. ⌜ r ≡ answeredBy self file (length (now (out .entry))) ⌝ }
         ensures bytes { λ _. ⌜ now (out .exit) ≡ roomBy self file (now (out .entry)) ⌝ }
     {
         if file.number != 0 {
-            return refusal(file.number, file.line, file.column);
+            return refused(file);
         }
         let found = self.found;
         let fields = found.fields;
         let kind = fields.kind;
         if is_found(kind) {
             if out.len() < 128 {
-                return refusal(format::NO_ROOM, file.line, 0);
+                return refused(Answer::refusal(format::NO_ROOM, file.line, 0));
             }
             let texts = found.texts();
             put(&texts, 0, out);
             return ItemRead {
-                answer: 0,
-                line: file.line,
-                column: 0,
+                answer: file,
                 fields,
             };
         }
-        refusal(format::NO_SUCH_ITEM, file.line, 0)
+        refused(Answer::refusal(format::NO_SUCH_ITEM, file.line, 0))
     }
 
     // After all lines of a file, by the file's own answer; 24 where the search handed in has over four descriptions of a kind.
@@ -91,9 +84,9 @@ impl Search {
     {
         let found = self.found;
         if found.is_within() {
-            self.told(file, out)
+            self.hand_out(file, out)
         } else {
-            refusal(format::BEYOND_LIMITS, 0, 0)
+            refused(Answer::refusal(format::BEYOND_LIMITS, 0, 0))
         }
     }
 }
@@ -108,5 +101,5 @@ pub fn item(file: &[u8], batch: u64, item: u64, out: &mut [u8]) -> ItemRead
     let answer = file::check(file);
     let search = Search::start(batch, item);
     let after = search.lines(file);
-    after.told(answer, out)
+    after.hand_out(answer, out)
 }

@@ -2,6 +2,7 @@
 ghost use mathlib.Core.Path.{_≡_};
 ghost use Rattle.items.specs.Search.{noFields};
 use descriptions::Descriptions;
+use format::Answer;
 use format::TypeRead;
 
 mod answer;
@@ -40,9 +41,7 @@ pub struct Search {
 
 // What is answered to one who asks for an item.
 pub struct ItemRead {
-    pub answer: u8,
-    pub line: u64,
-    pub column: u8,
+    pub answer: Answer,
     pub fields: ItemFields,
 }
 

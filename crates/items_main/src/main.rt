@@ -3,6 +3,7 @@
 use field::bytes::is_digits;
 use field::bytes::part;
 use field::numbers::Digits;
+use format::Answer;
 use format::TypeRead;
 use items::ItemFields;
 use items::ItemRead;
@@ -13,7 +14,6 @@ use page::put_answer;
 use page::put_input;
 use page::put_line;
 use page::put_number;
-use reading::Answer;
 use reading::State;
 use record::types::type_text;
 use streams::Lines;
@@ -69,16 +69,12 @@ fn seek_line(before: Sought, rest: &[u8], failed: bool) -> Sought {
     let next = r.next;
     let so_far = before.search;
     let search = so_far.lines(rest);
-    let answer = Answer {
-        number: r.answer,
-        line: r.line,
-        column: r.column,
-    };
+    let answer = r.answer;
     Sought {
         answer,
         state: next,
         search,
-        ended: (r.answer != 0) | (rest.len() == 0),
+        ended: (answer.number != 0) | (rest.len() == 0),
         done: !failed,
     }
 }
@@ -108,17 +104,14 @@ fn is_printed(found: ItemRead, texts: &[u8], name: &[u8], several: bool) -> bool
     let fields = found.fields;
     let a = put_input(&mut page, name, several);
     let b = put_item(&mut page, a, fields, texts);
-    let c = put_answer(&mut page, b, found.answer, found.line, found.column);
+    let answer = found.answer;
+    let c = put_answer(&mut page, b, answer);
     streams::told(io::write_all(STDOUT_FILENO, part(&page, 0, c)))
 }
 
 fn unsought(search: Search) -> Sought {
     let state = State::start();
-    let answer = Answer {
-        number: 0,
-        line: 0,
-        column: 0,
-    };
+    let answer = Answer::accepted(0);
     Sought {
         answer,
         state,
@@ -136,7 +129,7 @@ fn seek_in_file(fd: i32, name: &[u8], several: bool, wanted: Search) -> u8 {
         let mut texts = [32u8; 128];
         let found = search.answered(answer, &mut texts);
         let printed = is_printed(found, &texts, name, several);
-        return streams::status_of(found.answer, printed);
+        return streams::status_of(found.answer.number, printed);
     }
     streams::status_of(answer.number, false)
 }

@@ -1,5 +1,6 @@
 // Prints the listing of each file that its arguments name, or of standard input: its header, each closed batch, and the answer.
 use field::bytes::part;
+use format::Answer;
 use format::Group;
 use format::codes;
 use libc::STDOUT_FILENO;
@@ -16,9 +17,7 @@ use streams::Lines;
 // The listing so far: the answer to the last line, the state after it, how much is gathered, whether it was the last line, and whether
 // all was read and written.
 struct Listed {
-    answer: u8,
-    line: u64,
-    column: u8,
+    answer: Answer,
     state: State,
     at: usize,
     ended: bool,
@@ -31,11 +30,11 @@ fn put_header(
     created: u64,
     identification: u64,
     duplicate: u64,
-    sender: &[u8],
+    text: [u8; 35],
 ) -> usize {
     let a = put_line(page, at, b"file=", &codes::FILE_NAME);
     let b = put_number(page, a, b"created=", created, 6);
-    let c = put_line(page, b, b"sender=", sender);
+    let c = put_line(page, b, b"sender=", part(&text, 0, 5));
     let d = put_number(page, c, b"identification=", identification, 4);
     put_number(page, d, b"duplicate=", duplicate, 1)
 }
@@ -61,14 +60,7 @@ fn put_record(page: &mut [u8], at: usize, state: State, read: Record, text: [u8;
             created,
             identification,
             duplicate,
-        } => put_header(
-            page,
-            at,
-            created,
-            identification,
-            duplicate,
-            part(&text, 0, 5),
-        ),
+        } => put_header(page, at, created, identification, duplicate, text),
         Record::BatchTrailer {
             total: _,
             accounts: _,
@@ -104,14 +96,13 @@ fn list_line(before: Listed, rest: &[u8], failed: bool, page: &mut [u8]) -> List
     let r = state.line(rest);
     let read = r.read;
     let text = r.text;
+    let answer = r.answer;
     let next = r.next;
     listed.at = put_record(page, listed.at, state, read, text);
-    listed.answer = r.answer;
-    listed.line = r.line;
-    listed.column = r.column;
+    listed.answer = answer;
     listed.state = next;
     listed.done = listed.done & !failed;
-    listed.ended = (r.answer != 0) | (rest.len() == 0) | !listed.done;
+    listed.ended = (answer.number != 0) | (rest.len() == 0) | !listed.done;
     listed
 }
 
@@ -135,11 +126,10 @@ fn list_lines(before: Listed, fd: i32, name: &[u8], page: &mut [u8]) -> Listed {
 }
 
 fn unlisted(at: usize) -> Listed {
+    let answer = Answer::accepted(0);
     let state = State::start();
     Listed {
-        answer: 0,
-        line: 0,
-        column: 0,
+        answer,
         state,
         at,
         ended: false,
@@ -149,7 +139,8 @@ fn unlisted(at: usize) -> Listed {
 
 // The answer, after what is gathered; whether all was written.
 fn is_answered(listed: Listed, page: &mut [u8]) -> bool {
-    let end = put_answer(page, listed.at, listed.answer, listed.line, listed.column);
+    let answer = listed.answer;
+    let end = put_answer(page, listed.at, answer);
     streams::told(io::write_all(STDOUT_FILENO, part(page, 0, end)))
 }
 
@@ -158,9 +149,9 @@ fn list_file(fd: i32, name: &[u8], several: bool, page: &mut [u8]) -> u8 {
     let read = list_lines(unlisted(at), fd, name, page);
     let listed = make_room(read, page);
     if listed.done {
-        return streams::status_of(listed.answer, is_answered(listed, page));
+        return streams::status_of(listed.answer.number, is_answered(listed, page));
     }
-    streams::status_of(listed.answer, false)
+    streams::status_of(listed.answer.number, false)
 }
 
 // The file of argument i, or standard input.

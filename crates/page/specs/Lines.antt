@@ -6,6 +6,7 @@ use lib.ListN.{length}
 use lib.Dec.{leb, eqb}
 use Rattle.machine.specs.Lists.{pick, placed}
 use Rattle.machine.specs.Digits.{decimal}
+use Rattle.format.specs.declared.Answer.{Answer}
 
 -- 'Each line ends in byte 10'
 abbrev pub lineOf : List ℕ → List ℕ → List ℕ
@@ -36,12 +37,12 @@ abbrev pub columnKey : List ℕ
 columnKey = 99 ∷ 111 ∷ 108 ∷ 117 ∷ 109 ∷ 110 ∷ 61 ∷ []
 
 -- THE LAST THREE LINES: 'the last three have no leading zeros'
-unfoldable pub withAnswer : List ℕ × ℕ → ℕ → ℕ → ℕ → List ℕ × ℕ
-withAnswer page answer line column =
+unfoldable pub withAnswer : List ℕ × ℕ → Answer → List ℕ × ℕ
+withAnswer page a =
     withText (withText (withText page
-    (lineOf answerKey (numberText 1 answer)))
-    (lineOf lineKey (numberText 1 line)))
-    (lineOf columnKey (numberText 1 column))
+    (lineOf answerKey (numberText 1 (a .number))))
+    (lineOf lineKey (numberText 1 (a .line))))
+    (lineOf columnKey (numberText 1 (a .column)))
 
 -- input=
 abbrev pub inputKey : List ℕ

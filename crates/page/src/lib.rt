@@ -9,6 +9,7 @@ ghost use Rattle.page.specs.Lines.{lineOf, withText, withoutZeros, numbe
 use field::bytes::part;
 use field::bytes::put;
 use field::numbers::spelt;
+use format::Answer;
 
 // A text. One that has no room is left out whole.
 pub fn put_text(page: &mut [u8], at: usize, text: &[u8]) -> usize
@@ -106,12 +107,12 @@ pub fn put_number(page: &mut [u8], at: usize, key: &[u8], n: u64, least: usize) 
 }
 
 // The three lines of an answer.
-pub fn put_answer(page: &mut [u8], at: usize, answer: u8, line: u64, column: u8) -> usize
-    ensures { λ r. ⌜ (now (page .exit), r) ≡ withAnswer (now (page .entry), at) answer line column ⌝ }
+pub fn put_answer(page: &mut [u8], at: usize, answer: Answer) -> usize
+    ensures { λ r. ⌜ (now (page .exit), r) ≡ withAnswer (now (page .entry), at) answer ⌝ }
 {
-    let a = put_number(page, at, b"answer=", answer as u64, 1);
-    let b = put_number(page, a, b"line=", line, 1);
-    put_number(page, b, b"column=", column as u64, 1)
+    let a = put_number(page, at, b"answer=", answer.number as u64, 1);
+    let b = put_number(page, a, b"line=", answer.line, 1);
+    put_number(page, b, b"column=", answer.column as u64, 1)
 }
 
 // The name of an input at the start of a page, where there are several.

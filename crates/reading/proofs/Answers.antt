@@ -11,6 +11,8 @@ use mir.Val.{Fits}
 use mir.Syntax.{w64}
 use Rattle.machine.specs.Lists.{pick}
 use Rattle.format.specs.Cutting.{rows}
+use Rattle.format.specs.Answers.{refusal, acceptance}
+use Rattle.format.specs.declared.Answer.{Answer}
 use Rattle.format.specs.declared.Kind.{Kind}
 use Rattle.format.specs.declared.Code.{Code}
 use Rattle.format.specs.declared.Code.the-variants.{Of, Unknown}
@@ -20,11 +22,10 @@ use Rattle.record.specs.Read.{recordFor, textFor, valuesOf}
 use Rattle.record.specs.declared.Record.{Record}
 use Rattle.reading.specs.State.{startState, within}
 use Rattle.reading.specs.Step.{refused, judgedFirst, refusalLine, nothingRead, readBy, endedAt, stepAt}
-use Rattle.reading.specs.Check.{linesBy, linesOf, answerOf, answerBy, restOf, checkOf}
+use Rattle.reading.specs.Check.{linesBy, linesOf, answerBy, restOf, checkOf}
 use Rattle.reading.specs.declared.State.{State}
 use Rattle.reading.specs.declared.Judged.{Judged}
 use Rattle.reading.specs.declared.LineRead.{LineRead}
-use Rattle.reading.specs.declared.Answer.{Answer}
 use Rattle.record.proofs.Reading.{valued}
 use Rattle.reading.proofs.Limits.{within-line}
 use Rattle.reading.proofs.Judgements.{first-beyond}
@@ -54,10 +55,19 @@ unfolding stepAt
 step-first s [] h = absurd (omega arith)
 step-first s (x ∷ xs) h = refl
 
-pub step-none : {x : LineRead} (s : State) (xs : List ℕ) → length xs ≡ 0 → x ≡ endedAt s → x ≡ stepAt s xs
+-- the number and the column of a line's answer are those that it is judged
+pub step-judged : (s : State) (xs : List ℕ) → 0 < length xs → (stepAt s xs .answer .number ≡ judgedFirst s xs .number) × (stepAt s xs .answer .column ≡ judgedFirst s xs .column)
+step-judged s xs h = rw (step-first s xs h) (by (first s xs))
+  where
+    by : {j : Judged} → First s xs j → (readBy (take 50 xs) (j .code) j .answer .number ≡ j .number) × (readBy (take 50 xs) (j .code) j .answer .column ≡ j .column)
+    by (beyond w) = (refl, refl)
+    by (halted w c n z) = (refl, refl)
+    by (moved w k c a f) = (refl, refl)
+
+pub step-none : {x : LineRead} {a : Answer} (s : State) (xs : List ℕ) → length xs ≡ 0 → a ≡ endedAt s → x ≡ nothingRead s a → x ≡ stepAt s xs
 unfolding stepAt
-step-none s [] h e = e
-step-none s (x ∷ xs) h e = absurd (omega arith)
+step-none s [] h e f = f ∙ ap (nothingRead s) e
+step-none s (x ∷ xs) h e f = absurd (omega arith)
 
 -- the line that a refusal names
 name-small : (n l : ℕ) → ((n ≡ 24 → ⊥) → l ≤ 6999369995) → refusalLine n l ≤ 6999369996
@@ -100,19 +110,17 @@ module _ {p : List ℕ} {j : Judged} (s : State) (xs : List ℕ) (h : length xs 
   step-is : stepAt s xs ≡ readBy (take 50 xs) (j .code) j
   step-is = step-first s xs some ∙ ap (λ (i : Judged). readBy (take 50 xs) (i .code) i) (sym is-first)
 
-  pub step-refused : {x : LineRead} {n : ℕ} {c : Code} → c ≡ j .code → c ≡ Unknown → n ≡ refusalLine (j .number) (j .next .line) → x ≡ nothingRead (j .next) (j .number) n (j .column) → x ≡ stepAt s xs
-  step-refused u q l k = k ∙ ap (λ m. nothingRead (j .next) (j .number) m (j .column)) l ∙ sym (step-is ∙ ap (λ i. readBy (take 50 xs) i j) (sym u ∙ q))
+  pub step-refused : {x : LineRead} {n : ℕ} {a : Answer} {c : Code} → c ≡ j .code → c ≡ Unknown → n ≡ refusalLine (j .number) (j .next .line) → a ≡ refusal (j .number) n (j .column) → x ≡ nothingRead (j .next) a → x ≡ stepAt s xs
+  step-refused u q l f k = k ∙ ap (nothingRead (j .next)) (f ∙ ap (λ m. refusal (j .number) m (j .column)) l) ∙ sym (step-is ∙ ap (λ i. readBy (take 50 xs) i j) (sym u ∙ q))
 
-  pub step-taken : {r : Record} {t l : List ℕ} {c : Code} (k : Kind) → c ≡ j .code → c ≡ Of k → l ≡ take 50 xs → r ≡ recordFor k (valuesOf k l) → t ≡ textFor k (valuesOf k l)
-      → _≡_ {A = LineRead} (record { answer = j .number; line = j .next .line; column = j .column; next = j .next; read = r; text = t }) (stepAt s xs)
-  step-taken {r} {t} k u q v f g =
+  pub step-taken : {a : Answer} {r : Record} {t l : List ℕ} {c : Code} (k : Kind) → c ≡ j .code → c ≡ Of k → l ≡ take 50 xs → a ≡ acceptance (j .next .line) → r ≡ recordFor k (valuesOf k l) → t ≡ textFor k (valuesOf k l)
+      → _≡_ {A = LineRead} (record { answer = a; next = j .next; read = r; text = t }) (stepAt s xs)
+  step-taken {r = r} {t = t} k u q v n f g =
       let w = ap (valuesOf k) v ∙ valued (s .before) (s .batch) k (take 50 xs) (code-fault by-first k (sym u ∙ q)) in
       let a : r ≡ recordFor k (fieldsOf k (take 50 xs)) = f ∙ ap (recordFor k) w in
       let b : t ≡ textFor k (fieldsOf k (take 50 xs)) = g ∙ ap (textFor k) w in
-      (λ i. record { answer = j .number; line = j .next .line; column = j .column; next = j .next; read = a i; text = b i })
+      (λ i. record { answer = n i; next = j .next; read = a i; text = b i })
       ∙ sym (step-is ∙ ap (λ i. readBy (take 50 xs) i j) (sym u ∙ q))
-
-pub ruleset steps = (step-none, step-refused, step-taken)
 
 -- ## The whole file
 
@@ -145,13 +153,13 @@ module _ {j : Judged} (s : State) (xs : List ℕ) (e : j ≡ linesOf s xs) where
   pub rest-named : (j .number ≡ 0 → ⊥) → refusalLine (j .number) (j .next .line) ≤ 6999369996
   rest-named z = name-small (j .number) (j .next .line) (is-named z)
 
-  pub rest-stop : {l : ℕ} → (j .number ≡ 0 → ⊥) → l ≡ refusalLine (j .number) (j .next .line) → _≡_ {A = Answer} (record { number = j .number; line = l; column = j .column }) (restOf s xs)
+  pub rest-stop : {l : ℕ} {a : Answer} → (j .number ≡ 0 → ⊥) → l ≡ refusalLine (j .number) (j .next .line) → a ≡ refusal (j .number) l (j .column) → a ≡ restOf s xs
   unfolding restOf pick
-  rest-stop z h = ap (λ n. record { number = j .number; line = n; column = j .column }) h ∙ sym (ap answerBy (sym e) ∙ rw (ne-eqb _ _ z))
+  rest-stop z h f = f ∙ ap (λ n. refusal (j .number) n (j .column)) h ∙ sym (ap answerBy (sym e) ∙ rw (ne-eqb _ _ z))
 
-  pub rest-end : {r : LineRead} → j .number ≡ 0 → r ≡ endedAt (j .next) → answerOf r ≡ restOf s xs
+  pub rest-end : {a : Answer} → j .number ≡ 0 → a ≡ endedAt (j .next) → a ≡ restOf s xs
   unfolding restOf pick
-  rest-end z h = ap answerOf h ∙ sym (ap answerBy (sym e) ∙ rw (eq-eqb _ _ z))
+  rest-end z h = h ∙ sym (ap answerBy (sym e) ∙ rw (eq-eqb _ _ z))
 
 -- of a state that a call gave as the start
 pub checked : {a : Answer} {s : State} (file : List ℕ) → s ≡ startState → a ≡ restOf s file → a ≡ checkOf file

@@ -5,12 +5,11 @@ use lib.Dec.{eqb}
 use Rattle.machine.specs.Lists.{pick}
 use Rattle.format.specs.Answers.{accepted, beyondLimits}
 use Rattle.format.specs.Cutting.{rows}
+use Rattle.format.specs.declared.Answer.{Answer}
 use Rattle.reading.specs.State.{startState, within}
-use Rattle.reading.specs.Step.{refused, judgedFirst, refusalLine, endedAt}
+use Rattle.reading.specs.Step.{refused, judgedFirst, refusalBy, endedAt}
 use Rattle.reading.specs.declared.State.{State}
 use Rattle.reading.specs.declared.Judged.{Judged}
-use Rattle.reading.specs.declared.LineRead.{LineRead}
-use Rattle.reading.specs.declared.Answer.{Answer}
 
 -- lines one after the other up to the first that is refused, after j
 unfoldable pub linesBy : Judged → List (List ℕ) → Judged
@@ -23,13 +22,8 @@ linesBy j (line ∷ lines) =
 unfoldable pub linesOf : State → List ℕ → Judged
 linesOf s xs = pick (within s) (linesBy (refused s 0 accepted) (rows xs)) (refused s 0 beyondLimits)
 
-abbrev pub answerOf : LineRead → Answer
-answerOf r = record { number = r .answer; line = r .line; column = r .column }
-
 abbrev pub answerBy : Judged → Answer
-answerBy j =
-    pick (eqb (j .number) 0) (answerOf (endedAt (j .next)))
-    (record { number = j .number; line = refusalLine (j .number) (j .next .line); column = j .column })
+answerBy j = pick (eqb (j .number) 0) (endedAt (j .next)) (refusalBy j)
 
 -- what the bytes that remain of a file are answered, its end included
 unfoldable pub restOf : State → List ℕ → Answer

@@ -8,7 +8,8 @@ use Rattle.machine.specs.Lists.{pick}
 use Rattle.format.specs.Records.{Fields, group, orderingAccount, sequence, unidentified}
 use Rattle.format.specs.Rules.{groupOf, needsName}
 use Rattle.format.specs.Language.{tenDigits}
-use Rattle.format.specs.Answers.{accepted, brokenLine, unknownRecord, misplacedRecord, endsEarly, afterTrailer, beyondLimits}
+use Rattle.format.specs.Answers.{accepted, brokenLine, unknownRecord, misplacedRecord, endsEarly, afterTrailer, beyondLimits, refusal, acceptance}
+use Rattle.format.specs.declared.Answer.{Answer}
 use Rattle.format.specs.declared.Kind.{Kind}
 use Rattle.format.specs.declared.Kind.the-variants.{FileHeader, BatchHeaderB, BatchHeaderC, FixedDescription, OrderingParty, Transaction, NamePayer, CityPayer, PaymentReference, Description, NameBeneficiary, CityBeneficiary, BatchTrailer, FileTrailer}
 use Rattle.format.specs.declared.Code.{Code}
@@ -162,29 +163,30 @@ judgedFirst s xs =
 abbrev pub refusalLine : ℕ → ℕ → ℕ
 refusalLine number line = pick (eqb number beyondLimits) 0 (line + 1)
 
-abbrev pub nothingRead : State → ℕ → ℕ → ℕ → LineRead
-nothingRead s number line column = record { answer = number; line = line; column = column; next = s; read = Nothing; text = noText }
+abbrev pub refusalBy : Judged → Answer
+refusalBy j = refusal (j .number) (refusalLine (j .number) (j .next .line)) (j .column)
+
+abbrev pub nothingRead : State → Answer → LineRead
+nothingRead s a = record { answer = a; next = s; read = Nothing; text = noText }
 
 abbrev pub readBy : List ℕ → Code → Judged → LineRead
 readBy line (Of k) j =
     record {
-      answer = j .number;
-      line = j .next .line;
-      column = j .column;
+      answer = acceptance (j .next .line);
       next = j .next;
       read = recordFor k (fieldsOf k line);
       text = textFor k (fieldsOf k line);
     }
-readBy line Unknown j = nothingRead (j .next) (j .number) (refusalLine (j .number) (j .next .line)) (j .column)
+readBy line Unknown j = nothingRead (j .next) (refusalBy j)
 
 -- no bytes remain: 24, 10, or the end
-unfoldable pub endedAt : State → LineRead
+unfoldable pub endedAt : State → Answer
 endedAt s =
     pick (within s)
-    (pick (isDone s) (nothingRead s accepted (s .line) 0)
-    (nothingRead s endsEarly (s .line + 1) 0))
-    (nothingRead s beyondLimits 0 0)
+    (pick (isDone s) (acceptance (s .line))
+    (refusal endsEarly (s .line + 1) 0))
+    (refusal beyondLimits 0 0)
 
 unfoldable pub stepAt : State → List ℕ → LineRead
-stepAt s [] = endedAt s
+stepAt s [] = nothingRead s (endedAt s)
 stepAt s (x ∷ xs) = readBy (take 50 (x ∷ xs)) (judgedFirst s (x ∷ xs) .code) (judgedFirst s (x ∷ xs))

@@ -1,6 +1,7 @@
 // The reading state, the judging of a line, and the line reader.
 ghost use mathlib.Core.Path.{_≡_};
 ghost use Rattle.reading.specs.State.{noItem, startState};
+use format::Answer;
 use format::Code;
 use record::Batch;
 use record::Before;
@@ -57,19 +58,10 @@ pub struct Judged {
 
 // What a line is answered, the state after it, and the record read with its text.
 pub struct LineRead {
-    pub answer: u8,
-    pub line: u64,
-    pub column: u8,
+    pub answer: Answer,
     pub next: State,
     pub read: Record,
     pub text: [u8; 35],
-}
-
-// What a file is answered.
-pub struct Answer {
-    pub number: u8,
-    pub line: u64,
-    pub column: u8,
 }
 
 fn no_item() -> OpenItem

@@ -9,6 +9,7 @@ use crate::State;
 use crate::judge::is_within;
 use crate::order::is_stage;
 use field::bytes::part;
+use format::Answer;
 use format::Code;
 use record::Record;
 use record::read::record_in;
@@ -26,13 +27,11 @@ pub(crate) fn refusal_line(number: u8, line: u64) -> u64
 }
 
 impl State {
-    fn nothing_read(self, answer: u8, line: u64, column: u8) -> LineRead
-        ensures { λ r. ⌜ r ≡ nothingRead self answer line column ⌝ }
+    fn nothing_read(self, answer: Answer) -> LineRead
+        ensures { λ r. ⌜ r ≡ nothingRead self answer ⌝ }
     {
         LineRead {
             answer,
-            line,
-            column,
             next: self,
             read: Record::Nothing,
             text: [32u8; 35],
@@ -40,26 +39,26 @@ impl State {
     }
 
     // No bytes remain.
-    pub(crate) fn ended(self) -> LineRead
+    pub(crate) fn ended(self) -> Answer
         ensures { λ r. ⌜ r ≡ endedAt self ⌝ }
     {
         let stage = self.stage;
         let line = self.line;
         if is_within(self) {
             if is_stage(stage, Stage::Done) {
-                return self.nothing_read(0, line, 0);
+                return Answer::accepted(line);
             }
-            return self.nothing_read(format::ENDS_EARLY, line + 1, 0);
+            return Answer::refusal(format::ENDS_EARLY, line + 1, 0);
         }
-        self.nothing_read(format::BEYOND_LIMITS, 0, 0)
+        Answer::refusal(format::BEYOND_LIMITS, 0, 0)
     }
 
-    // The next line of what remains of a file: its answer, line and column, the state after it, and the record read.
+    // The next line of what remains of a file: its answer, the state after it, and the record read.
     pub fn line(self, rest: &[u8]) -> LineRead
         ensures { λ r. ⌜ r ≡ stepAt self (now (rest .entry)) ⌝ }
     {
         if rest.len() == 0 {
-            return self.ended();
+            return self.nothing_read(self.ended());
         }
         let line = part(rest, 0, 50);
         let j = self.lines(part(rest, 0, 52));
@@ -67,16 +66,14 @@ impl State {
         let code = j.code;
         match code {
             Code::Of(k) => LineRead {
-                answer: j.number,
-                line: next.line,
-                column: j.column,
+                answer: Answer::accepted(next.line),
                 next,
                 read: record_in(k, line),
                 text: text_in(k, line),
             },
             Code::Unknown => {
                 let named = refusal_line(j.number, next.line);
-                next.nothing_read(j.number, named, j.column)
+                next.nothing_read(Answer::refusal(j.number, named, j.column))
             }
         }
     }

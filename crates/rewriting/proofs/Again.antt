@@ -11,6 +11,8 @@ use lib.Seq.{take-at, length-take-le}
 use lib.Dec.{T, eqb}
 use Rattle.machine.specs.Lists.{pick, placed}
 use Rattle.machine.proofs.Base.{true≢false}
+use Rattle.format.specs.Answers.{refusal, acceptance}
+use Rattle.format.specs.declared.Answer.{Answer}
 use Rattle.format.specs.Cutting.{rowsFrom, rows}
 use Rattle.format.specs.Records.{type, amount, payer, beneficiary}
 use Rattle.format.specs.Rules.{typeOf, isType}
@@ -27,13 +29,12 @@ use Rattle.record.specs.declared.Before.{Before}
 use Rattle.record.specs.declared.Batch.{Batch}
 use Rattle.record.proofs.Faulting.{type-known}
 use Rattle.reading.specs.State.{startState, isLimited, within}
-use Rattle.reading.specs.Step.{nextFor, refused, taken, isDone, judgedFirst, nothingRead, readBy, endedAt, refusalLine, stepAt}
-use Rattle.reading.specs.Check.{linesBy, linesOf, answerOf, answerBy, checkOf, restOf}
+use Rattle.reading.specs.Step.{nextFor, refused, taken, isDone, judgedFirst, refusalBy, readBy, endedAt, stepAt}
+use Rattle.reading.specs.Check.{linesBy, linesOf, answerBy, checkOf, restOf}
 use Rattle.reading.specs.declared.Name.the-variants.{Unwanted}
 use Rattle.reading.specs.declared.State.{State}
 use Rattle.reading.specs.declared.Judged.{Judged}
 use Rattle.reading.specs.declared.LineRead.{LineRead}
-use Rattle.reading.specs.declared.Answer.{Answer}
 use Rattle.reading.proofs.Running.{whole-long, first-52, goingOn}
 use Rattle.reading.proofs.Verdicts.{Taken, takes}
 use Rattle.writer.specs.Entries.{lineFor}
@@ -139,7 +140,7 @@ unfolding endedAt pick
 ends j z = on (eqb (j .number) 0) (within (j .next)) (isDone (j .next)) refl refl refl z
   where
     on : (a b c : Bool) → eqb (j .number) 0 ≡ a → within (j .next) ≡ b → isDone (j .next) ≡ c
-        → pick a (answerOf (pick b (pick c (nothingRead (j .next) 0 (j .next .line) 0) (nothingRead (j .next) 10 (j .next .line + 1) 0)) (nothingRead (j .next) 24 0 0))) (record { number = j .number; line = refusalLine (j .number) (j .next .line); column = j .column }) .number ≡ 0
+        → pick a (pick b (pick c (acceptance (j .next .line)) (refusal 10 (j .next .line + 1) 0)) (refusal 24 0 0)) (refusalBy j) .number ≡ 0
         → Ended j
     on true true true a b c z = record { number = eqb-true (j .number) 0 a; limits = b; done = c }
     on true true false a b c z = absurd (omega arith)
@@ -237,9 +238,9 @@ step-as : (s : State) (x : ℕ) (xs : List ℕ) (k : Kind) → judgedFirst s (x 
 unfolding stepAt
 step-as s x xs k e = ap (λ (j : Judged). readBy (take 50 (x ∷ xs)) (j .code) j) e
 
-wrote : (w : State) (e : Entry) (t : List ℕ) (r : LineRead) → stepAt w (lineFor w e t) ≡ r → r .answer ≡ 0 → writtenOf w e t 52 ≡ answered 0 (r .line) 0 (r .next)
+wrote : (w : State) (e : Entry) (t : List ℕ) (r : LineRead) → stepAt w (lineFor w e t) ≡ r → r .answer .number ≡ 0 → writtenOf w e t 52 ≡ answered (r .answer) (r .next)
 unfolding writtenOf pick
-wrote w e t r h z = rw (h, eq-eqb (r .answer) 0 z)
+wrote w e t r h z = rw (h, eq-eqb (r .answer .number) 0 z)
 
 module _ {s : State} {x : ℕ} {xs : List ℕ} (tk : Taken s (x ∷ xs)) (w : State) (b : Behind s w) (rest : List ℕ) (f : (u : State) → Behind (nextBy s (tk .kind) (x ∷ xs)) u → Rewrites (nextBy s (tk .kind) (x ∷ xs)) u (drop 51 xs) rest) where
   read-s : stepAt s (x ∷ xs) ≡ readAs s (tk .kind) (x ∷ xs)
@@ -257,16 +258,16 @@ module _ {s : State} {x : ℕ} {xs : List ℕ} (tk : Taken s (x ∷ xs)) (w : St
 
     line-is : take 52 (x ∷ xs) ≡ lineFor w (entry .0) (stepAt s (x ∷ xs) .text)
     line-is =
-        written-again w (x ∷ xs) (omega arith) (ap (λ (r : LineRead). r .answer) read-w) (entry .0) (ap (λ (r : LineRead). entryOf (r .read)) read-w ∙ entry .1)
+        written-again w (x ∷ xs) (omega arith) (ap (λ (r : LineRead). r .answer .number) read-w) (entry .0) (ap (λ (r : LineRead). entryOf (r .read)) read-w ∙ entry .1)
         ∙ ap (lineFor w (entry .0)) (ap (λ (r : LineRead). r .text) read-w ∙ sym (ap (λ (r : LineRead). r .text) read-s))
 
-    writer-is : writtenOf w (entry .0) (stepAt s (x ∷ xs) .text) 52 ≡ answered 0 (readAs w (tk .kind) (x ∷ xs) .line) 0 (readAs w (tk .kind) (x ∷ xs) .next)
+    writer-is : writtenOf w (entry .0) (stepAt s (x ∷ xs) .text) 52 ≡ answered (readAs w (tk .kind) (x ∷ xs) .answer) (readAs w (tk .kind) (x ∷ xs) .next)
     writer-is = wrote w (entry .0) (stepAt s (x ∷ xs) .text) (readAs w (tk .kind) (x ∷ xs)) (ap (stepAt w) (sym line-is) ∙ step-front w (x ∷ xs) ∙ read-w) refl
 
     kept-written : Rewrites s w (x ∷ xs) (take 52 (x ∷ xs) ++ rest)
     kept-written =
         subst (λ l. Rewrites s w (x ∷ xs) (l ++ rest)) (sym line-is)
-        (written (entry .0) (ap (λ (r : LineRead). r .answer) read-s) (ap (λ (r : LineRead). entryOf (r .read)) read-s ∙ entry .1) (ap (λ (v : Written). v .answer) writer-is)
+        (written (entry .0) (ap (λ (r : LineRead). r .answer .number) read-s) (ap (λ (r : LineRead). entryOf (r .read)) read-s ∙ entry .1) (ap (λ (v : Written). v .answer .number) writer-is)
         (subst (λ (v : Written). Rewrites (stepAt s (x ∷ xs) .next) (v .next) (drop 51 xs) rest) (sym writer-is) (after (nextBy w (tk .kind) (x ∷ xs)) (behind-too b tk c))))
 
   line-written : (q : Bool) → isCity (take 52 (x ∷ xs)) ≡ q → Rewrites s w (x ∷ xs) (pick q [] (take 52 (x ∷ xs)) ++ rest)
@@ -274,7 +275,7 @@ module _ {s : State} {x : ℕ} {xs : List ℕ} (tk : Taken s (x ∷ xs)) (w : St
   line-written true e =
       let c = sym (city-kind (x ∷ xs) tk) ∙ e in
       let o = no-entry (entryOf (recordFor (tk .kind) (fieldsOf (tk .kind) (take 50 (x ∷ xs))))) (has-entry (s .before) (s .batch) (tk .kind) (take 50 (x ∷ xs)) (tk .faultless) ∙ ap not c) in
-      city (ap (λ (r : LineRead). r .answer) read-s) (ap (λ (r : LineRead). entryOf (r .read)) read-s ∙ o) (after w (behind-city b tk c))
+      city (ap (λ (r : LineRead). r .answer .number) read-s) (ap (λ (r : LineRead). entryOf (r .read)) read-s ∙ o) (after w (behind-city b tk c))
   line-written false e = kept-written (sym (city-kind (x ∷ xs) tk) ∙ e)
 
 rewrites : {s u : State} {xs : List ℕ} {lines : List (List ℕ)} → Read s xs lines u → (w : State) → Behind s w → Rewrites s w xs (keptOf lines)
@@ -299,9 +300,9 @@ all-again file z =
     }
 
 module _ {a : Answer} (file o : List ℕ) (w : Rewritten) (e : a ≡ checkOf file) where
-  pub promise-none : (a .number ≡ 0 → ⊥) → w .answer ≡ a .number → Promised file w o
+  pub promise-none : (a .number ≡ 0 → ⊥) → w .answer ≡ a → Promised file w o
   unfolding Promised
-  promise-none z h = λ q. absurd (z (sym h ∙ q))
+  promise-none z h = λ q. absurd (z (ap (λ (y : Answer). y .number) (sym h) ∙ q))
 
   pub promise-met : (out : List ℕ) → a .number ≡ 0 → w .written ≡ length (withoutCities file) → o ≡ placed out 0 (withoutCities file) → Promised file w o
   unfolding Promised
@@ -309,6 +310,6 @@ module _ {a : Answer} (file o : List ℕ) (w : Rewritten) (e : a ≡ checkOf fil
       let b : take (w .written) o ≡ withoutCities file = ap₂ take n (h ∙ placed-front out (withoutCities file)) ∙ take-at (withoutCities file) (drop (length (withoutCities file)) out) (length (withoutCities file)) refl in
       subst (Again file) (sym b) (all-again file (ap (λ (y : Answer). y .number) (sym e) ∙ z))
 
-pub promise-small : (file o : List ℕ) (w : Rewritten) → w .answer ≡ 12 → Promised file w o
+pub promise-small : {line : ℕ} (file o : List ℕ) (w : Rewritten) → w .answer ≡ refusal 12 line 0 → Promised file w o
 unfolding Promised
-promise-small file o w h = λ q. absurd (let z : _≡_ {A = ℕ} 12 0 = sym h ∙ q in omega arith)
+promise-small file o w h = λ q. absurd (let z : _≡_ {A = ℕ} 12 0 = ap (λ (y : Answer). y .number) (sym h) ∙ q in omega arith)

@@ -8,14 +8,15 @@ use borrow.Author.Needs.{needs}
 use borrow.Author.Tests.{eq-eqb, ne-eqb, le-leb, lt-leb}
 use lib.ListN.{length, take, drop, length-append, length-take, length-drop}
 use Rattle.machine.specs.Lists.{pick, placed, putIn}
+use Rattle.format.specs.Answers.{refusal}
 use Rattle.format.specs.Cutting.{rows}
+use Rattle.format.specs.declared.Answer.{Answer}
 use Rattle.format.proofs.ByRows.{rows-at, rows-none}
 use Rattle.field.proofs.Putting.{put-fits, put-fitting, put-long, length-placed, placed-both}
-use Rattle.reading.specs.Check.{checkOf}
-use Rattle.reading.specs.declared.Answer.{Answer}
 use Rattle.record.specs.Kinds.{isCity}
+use Rattle.reading.specs.Check.{checkOf}
 use Rattle.rewriting.specs.Cities.{keptLine, keptOf, withoutCities}
-use Rattle.rewriting.specs.Rewriting.{told, rewrittenBy, roomBy, rewrittenOf, roomAfter}
+use Rattle.rewriting.specs.Rewriting.{answered, rewrittenBy, roomBy, rewrittenOf, roomAfter}
 use Rattle.rewriting.specs.declared.Rewritten.{Rewritten}
 
 -- ## Lines
@@ -125,15 +126,15 @@ pub ruleset copies = (copy-none, copy-kept, copy-all, copy-more, needs)
 -- ## The answer
 
 module _ {a : Answer} (file : List ℕ) (room : ℕ) (e : a ≡ checkOf file) where
-  pub by-refusal : {w : Rewritten} → (a .number ≡ 0 → ⊥) → w ≡ told (a .number) (a .line) (a .column) 0 → w ≡ rewrittenOf file room
+  pub by-refusal : {w : Rewritten} → (a .number ≡ 0 → ⊥) → w ≡ answered a 0 → w ≡ rewrittenOf file room
   unfolding rewrittenOf pick
   by-refusal z h = h ∙ sym (ap (λ b. rewrittenBy b (length (withoutCities file)) room) (sym e) ∙ rw (ne-eqb _ _ z))
 
-  pub by-room : {w : Rewritten} {n : ℕ} → a .number ≡ 0 → n ≡ length (withoutCities file) → room < n → w ≡ told 12 (a .line) 0 0 → w ≡ rewrittenOf file room
+  pub by-room : {w : Rewritten} {b : Answer} {n : ℕ} → a .number ≡ 0 → n ≡ length (withoutCities file) → room < n → b ≡ refusal 12 (a .line) 0 → w ≡ answered b 0 → w ≡ rewrittenOf file room
   unfolding rewrittenOf pick
-  by-room {n = n} z f l h = h ∙ sym (ap₂ (λ b m. rewrittenBy b m room) (sym e) (sym f) ∙ rw (eq-eqb _ _ z, lt-leb n room l))
+  by-room {n = n} z f l g h = h ∙ ap (λ b. answered b 0) g ∙ sym (ap₂ (λ b m. rewrittenBy b m room) (sym e) (sym f) ∙ rw (eq-eqb _ _ z, lt-leb n room l))
 
-  pub by-acceptance : {w : Rewritten} {n : ℕ} → a .number ≡ 0 → n ≡ length (withoutCities file) → n ≤ room → w ≡ told 0 (a .line) 0 n → w ≡ rewrittenOf file room
+  pub by-acceptance : {w : Rewritten} {n : ℕ} → a .number ≡ 0 → n ≡ length (withoutCities file) → n ≤ room → w ≡ answered a n → w ≡ rewrittenOf file room
   unfolding rewrittenOf pick
   by-acceptance {n = n} z f l h = h ∙ sym (ap₂ (λ b m. rewrittenBy b m room) (sym e) (sym f) ∙ rw (eq-eqb _ _ z, le-leb n room l))
 

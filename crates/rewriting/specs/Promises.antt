@@ -27,10 +27,10 @@ noCity (line ∷ lines) = not (isCity line) && noCity lines
 -- s reads a file line by line, and of each record that is no city's w writes what the writer does: the line of its record and text, which the writer accepts, and the writer's next state
 pub data Rewrites : State → State → List ℕ → List ℕ → Type 0 where
   ended : (s w : State) → Rewrites s w [] []
-  city : {s w : State} {x : ℕ} {xs out : List ℕ} → stepAt s (x ∷ xs) .answer ≡ accepted → entryOf (stepAt s (x ∷ xs) .read) ≡ none
+  city : {s w : State} {x : ℕ} {xs out : List ℕ} → stepAt s (x ∷ xs) .answer .number ≡ accepted → entryOf (stepAt s (x ∷ xs) .read) ≡ none
       → Rewrites (stepAt s (x ∷ xs) .next) w (drop 51 xs) out → Rewrites s w (x ∷ xs) out
-  written : {s w : State} {x : ℕ} {xs out : List ℕ} (e : Entry) → stepAt s (x ∷ xs) .answer ≡ accepted → entryOf (stepAt s (x ∷ xs) .read) ≡ some e
-      → writtenOf w e (stepAt s (x ∷ xs) .text) 52 .answer ≡ accepted
+  written : {s w : State} {x : ℕ} {xs out : List ℕ} (e : Entry) → stepAt s (x ∷ xs) .answer .number ≡ accepted → entryOf (stepAt s (x ∷ xs) .read) ≡ some e
+      → writtenOf w e (stepAt s (x ∷ xs) .text) 52 .answer .number ≡ accepted
       → Rewrites (stepAt s (x ∷ xs) .next) (writtenOf w e (stepAt s (x ∷ xs) .text) 52 .next) (drop 51 xs) out
       → Rewrites s w (x ∷ xs) (lineFor w e (stepAt s (x ∷ xs) .text) ++ out)
 
@@ -47,4 +47,4 @@ pub record Again (file bytes : List ℕ) : Type 0 where
 
 -- an answer, and the room after it
 unfoldable pub Promised : List ℕ → Rewritten → List ℕ → Type 0
-Promised file r out = r .answer ≡ accepted → Again file (take (r .written) out)
+Promised file r out = r .answer .number ≡ accepted → Again file (take (r .written) out)

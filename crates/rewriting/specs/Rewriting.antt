@@ -4,22 +4,22 @@ use mathlib.Core.List.{List}
 use lib.ListN.{length}
 use lib.Dec.{leb, eqb}
 use Rattle.machine.specs.Lists.{pick, putIn}
-use Rattle.format.specs.Answers.{accepted, noRoom}
+use Rattle.format.specs.Answers.{accepted, noRoom, refusal}
+use Rattle.format.specs.declared.Answer.{Answer}
 use Rattle.reading.specs.Check.{checkOf}
-use Rattle.reading.specs.declared.Answer.{Answer}
 use Rattle.rewriting.specs.Cities.{withoutCities}
 use Rattle.rewriting.specs.declared.Rewritten.{Rewritten}
 
-abbrev pub told : ℕ → ℕ → ℕ → ℕ → Rewritten
-told number line column written = record { answer = number; line = line; column = column; written = written }
+abbrev pub answered : Answer → ℕ → Rewritten
+answered a written = record { answer = a; written = written }
 
 -- by the file's own answer, the bytes to write and the room: '12 comes last and only where nothing else applies'
 abbrev pub rewrittenBy : Answer → ℕ → ℕ → Rewritten
 rewrittenBy a n room =
     pick (eqb (a .number) accepted)
-    (pick (leb n room) (told accepted (a .line) 0 n)
-    (told noRoom (a .line) 0 0))
-    (told (a .number) (a .line) (a .column) 0)
+    (pick (leb n room) (answered a n)
+    (answered (refusal noRoom (a .line) 0) 0))
+    (answered a 0)
 
 -- the bytes at the front, where they fit, and those after them as they were
 abbrev pub roomBy : Answer → List ℕ → List ℕ → List ℕ

@@ -10,13 +10,12 @@ ghost use Rattle.rewriting.specs.Promises.{Promised};
 ghost use Rattle.rewriting.specs.Rewriting.{rewrittenOf, roomAfter};
 use field::bytes::part;
 use field::bytes::put;
+use format::Answer;
 use record::kinds::is_city;
 
 // What a file to write again is answered, and how many bytes were written.
 pub struct Rewritten {
-    pub answer: u8,
-    pub line: u64,
-    pub column: u8,
+    pub answer: Answer,
     pub written: usize,
 }
 
@@ -59,7 +58,7 @@ fn copy(file: &[u8], out: &mut [u8])
     }
 }
 
-// Writes a file again: its own answer, line and column; 12 where only the room is too small. A refusal leaves the room as it was.
+// Writes a file again: its own answer; 12 where only the room is too small. A refusal leaves the room as it was.
 pub fn rewrite(file: &[u8], out: &mut [u8]) -> Rewritten
     ensures answer { λ r. ⌜ r ≡ rewrittenOf (now (file .entry)) (length (now (out .entry))) ⌝ }
     ensures bytes { λ _. ⌜ now (out .exit) ≡ roomAfter (now (file .entry)) (now (out .entry)) ⌝ }
@@ -68,26 +67,20 @@ pub fn rewrite(file: &[u8], out: &mut [u8]) -> Rewritten
     let a = file::check(file);
     if a.number != 0 {
         return Rewritten {
-            answer: a.number,
-            line: a.line,
-            column: a.column,
+            answer: a,
             written: 0,
         };
     }
     let n = size(file);
     if out.len() < n {
         return Rewritten {
-            answer: format::NO_ROOM,
-            line: a.line,
-            column: 0,
+            answer: Answer::refusal(format::NO_ROOM, a.line, 0),
             written: 0,
         };
     }
     copy(file, out);
     Rewritten {
-        answer: 0,
-        line: a.line,
-        column: 0,
+        answer: a,
         written: n,
     }
 }

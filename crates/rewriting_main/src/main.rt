@@ -2,6 +2,7 @@
 // city records. A file is checked first and then read again, so that nothing of a refused one is written; its answer goes to standard error.
 use checking::Checked;
 use field::bytes::part;
+use format::Answer;
 use libc::STDERR_FILENO;
 use libc::STDOUT_FILENO;
 use page::put_answer;
@@ -20,7 +21,7 @@ const NO_MORE: u8 = 3;
 // A file so far: the answer to the last line, the reader's state after it and the writer's, how much of the page is filled, whether it
 // was the last line, and whether all was read and all was written.
 struct Copied {
-    answer: u8,
+    answer: Answer,
     reader: State,
     writer: State,
     at: usize,
@@ -97,8 +98,9 @@ fn put_entry(before: Copied, entry: Entry, text: [u8; 35], page: &mut [u8]) -> C
     }
     let state = before.writer;
     let w = writer::write(state, entry, text, &mut page[at..]);
-    if w.answer != 0 {
-        copied.answer = w.answer;
+    let answer = w.answer;
+    if answer.number != 0 {
+        copied.answer = answer;
         return copied;
     }
     let next = w.next;
@@ -113,9 +115,10 @@ fn copy_line(before: Copied, rest: &[u8], page: &mut [u8]) -> Copied {
     let r = state.line(rest);
     let read = r.read;
     let text = r.text;
+    let answer = r.answer;
     let next = r.next;
     let mut copied = before;
-    copied.answer = r.answer;
+    copied.answer = answer;
     copied.reader = next;
     let entry = entry_of(read);
     match entry {
@@ -138,7 +141,7 @@ fn make_room(before: Copied, page: &[u8]) -> Copied {
 // The next line, or the end where there is none; whether all was read until there.
 fn copy_next(before: Copied, rest: &[u8], failed: bool, page: &mut [u8]) -> Copied {
     let mut copied = copy_line(before, rest, page);
-    copied.ended = (copied.answer != 0) | (rest.len() == 0);
+    copied.ended = (copied.answer.number != 0) | (rest.len() == 0);
     copied.read = !failed;
     make_room(copied, page)
 }
@@ -162,10 +165,11 @@ fn copy_lines(start: Lines, fd: i32, name: &[u8], page: &mut [u8]) -> Copied {
 }
 
 fn unwritten() -> Copied {
+    let answer = Answer::accepted(0);
     let reader = State::start();
     let writer = State::start();
     Copied {
-        answer: 0,
+        answer,
         reader,
         writer,
         at: 0,
@@ -179,7 +183,8 @@ fn unwritten() -> Copied {
 fn is_told(checked: Checked, name: &[u8], several: bool) -> bool {
     let mut page = [0u8; 8192];
     let a = put_input(&mut page, name, several);
-    let b = put_answer(&mut page, a, checked.answer, checked.line, checked.column);
+    let answer = checked.answer;
+    let b = put_answer(&mut page, a, answer);
     io::write_all(STDERR_FILENO, part(&page, 0, b))
 }
 
@@ -199,11 +204,11 @@ fn copy_again(source: Source, name: &[u8], page: &mut [u8]) -> u8 {
         return NO_MORE;
     }
     if copied.read {
-        if copied.answer != 0 {
+        if copied.answer.number != 0 {
             tell_changed(name);
         }
     }
-    streams::status_of(0, copied.read & (copied.answer == 0))
+    streams::status_of(0, copied.read & (copied.answer.number == 0))
 }
 
 // A file that can be read twice.
@@ -211,10 +216,10 @@ fn copy_source(source: Source, name: &[u8], several: bool, page: &mut [u8]) -> u
     let checked = checking::check(source.fd, name, page);
     let lines = checked.lines;
     if lines.failed {
-        return streams::status_of(checked.answer, false);
+        return streams::status_of(checked.answer.number, false);
     }
-    if checked.answer != 0 {
-        return streams::status_of(checked.answer, is_told(checked, name, several));
+    if checked.answer.number != 0 {
+        return streams::status_of(checked.answer.number, is_told(checked, name, several));
     }
     copy_again(source, name, page)
 }

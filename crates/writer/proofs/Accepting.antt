@@ -17,8 +17,8 @@ use Rattle.format.specs.Tests.{Test, test, Tests, sameGroupTests}
 use Rattle.format.specs.declared.Kind.{Kind}
 use Rattle.format.specs.declared.Kind.the-variants.{FileHeader, BatchHeaderB, BatchHeaderC, FixedDescription, OrderingParty, Transaction, NamePayer, CityPayer, PaymentReference, Description, NameBeneficiary, CityBeneficiary, BatchTrailer, FileTrailer}
 use Rattle.format.specs.declared.Group.{Group}
-use Rattle.format.specs.declared.Code.{Code}
-use Rattle.format.specs.declared.Code.the-variants.{Of, Unknown}
+use Rattle.format.specs.Answers.{acceptance}
+use Rattle.format.specs.declared.Code.the-variants.{Of}
 use Rattle.format.proofs.Checks.{Hold, Holds, read-field}
 use Rattle.format.proofs.Link.{line-widths}
 use Rattle.field.specs.Rows.{Row, partAt, firstAnswer, fieldAnswer, rowsAt, checkRows, fieldsAt, firstOr}
@@ -35,7 +35,7 @@ use Rattle.reading.specs.Step.{nextFor, isWhole, judgedFirst, readBy, stepAt}
 use Rattle.reading.specs.declared.State.{State}
 use Rattle.reading.specs.declared.Judged.{Judged}
 use Rattle.reading.specs.declared.LineRead.{LineRead}
-use Rattle.reading.proofs.Answers.{step-first}
+use Rattle.reading.proofs.Answers.{step-first, step-judged}
 use Rattle.reading.proofs.Running.{first-52, whole-long}
 use Rattle.reading.proofs.Verdicts.{next-line, Taken, takes}
 use Rattle.writer.specs.Encoding.{lineEnd}
@@ -107,7 +107,7 @@ numbered p b FileTrailer x = (tt, tt)
 
 -- a record that is read and taken
 abbrev pub takenAs : State → (k : Kind) → Fields k → LineRead
-takenAs s k x = record { answer = 0; line = s .line + 1; column = 0; next = nextFor s k x; read = recordFor k x; text = textFor k x }
+takenAs s k x = record { answer = acceptance (s .line + 1); next = nextFor s k x; read = recordFor k x; text = textFor k x }
 
 pub record Accepted (s : State) (xs : List ℕ) : Type 0 where
   pub whole : isWhole xs ≡ true
@@ -128,19 +128,11 @@ of-taken {s} {xs} t e =
       kind = k;
       coded = t .coded;
       fields = faultless 6 (layout k) (testsFor (s .before) (s .batch) k x) (take 50 xs) (checkRows (maximaFor (s .batch) k x)) (omega arith) (omega arith) (numbered (s .before) (s .batch) k x) (t .faultless);
-      step = e ∙ ap (λ (j : Judged). readBy (take 50 xs) (j .code) j) (t .is) ∙ ap (λ n. record { answer = 0; line = n; column = 0; next = nextFor s k x; read = recordFor k x; text = textFor k x }) (next-line s k x);
+      step = e ∙ ap (λ (j : Judged). readBy (take 50 xs) (j .code) j) (t .is) ∙ ap (λ n. record { answer = acceptance n; next = nextFor s k x; read = recordFor k x; text = textFor k x }) (next-line s k x);
     }
 
-pub step-answer : (line : List ℕ) (c : Code) (j : Judged) → readBy line c j .answer ≡ j .number
-step-answer line (Of k) j = refl
-step-answer line Unknown j = refl
-
-pub accepts : (s : State) (xs : List ℕ) → 0 < length xs → stepAt s xs .answer ≡ 0 → Accepted s xs
-accepts s xs h z =
-    let j = judgedFirst s xs in
-    let e = step-first s xs h in
-    let n : j .number ≡ 0 = sym (ap (λ (r : LineRead). r .answer) e ∙ step-answer (take 50 xs) (j .code) j) ∙ z in
-    of-taken (takes s xs n) e
+pub accepts : (s : State) (xs : List ℕ) → 0 < length xs → stepAt s xs .answer .number ≡ 0 → Accepted s xs
+accepts s xs h z = of-taken (takes s xs (sym (step-judged s xs h .0) ∙ z)) (step-first s xs h)
 
 -- its 52 bytes by its fields
 module _ {s : State} {xs : List ℕ} (a : Accepted s xs) where

@@ -253,7 +253,7 @@ again s kinds.FileTrailer x f h e q = written-as s noText FileTrailer x (blank-n
 
 -- ## The line
 
-pub written-again : (s : State) (xs : List ℕ) → 0 < length xs → stepAt s xs .answer ≡ 0 → (e : Entry) → entryOf (stepAt s xs .read) ≡ some e → take 52 xs ≡ lineFor s e (stepAt s xs .text)
+pub written-again : (s : State) (xs : List ℕ) → 0 < length xs → stepAt s xs .answer .number ≡ 0 → (e : Entry) → entryOf (stepAt s xs .read) ≡ some e → take 52 xs ≡ lineFor s e (stepAt s xs .text)
 written-again s xs l z e q =
     let a = accepts s xs l z in
     let k = a .kind in

@@ -31,6 +31,7 @@ use Rattle.record.specs.Read.{itemOf, recordFor, textFor, noText, padded}
 use Rattle.record.specs.declared.Record.the-variants as read
 use Rattle.reading.specs.Step.{nextFor, stepAt}
 use Rattle.reading.specs.declared.State.{State}
+use Rattle.format.specs.Answers.{acceptance}
 use Rattle.reading.specs.declared.LineRead.{LineRead}
 use Rattle.writer.specs.Encoding.{unfit, numberIn, textIn, blankIn, Given, Givens, encodeField, encodeFields, lineEnd, encodedLine, testText}
 use Rattle.writer.specs.Entries.{digitsFor, kindOf, givenFor, lineFor}
@@ -276,7 +277,7 @@ module _ (s : State) (e : Entry) (t : List ℕ) (h : length t ≡ 35) where
       ∙ take-all 45 (encodeFields (layout (kindOf e)) (givenFor s t e)) (omega (arith, body-long))
 
   -- the fields that are read of it are those given
-  of-accepted : (a : Accepted s (lineFor s e t)) → a .kind ≡ kindOf e → stepAt s (lineFor s e t) ≡ record { answer = 0; line = s .line + 1; column = 0; next = nextFor s (kindOf e) (fieldsOf (kindOf e) (take 50 (lineFor s e t))); read = recordOf s e; text = t }
+  of-accepted : (a : Accepted s (lineFor s e t)) → a .kind ≡ kindOf e → stepAt s (lineFor s e t) ≡ record { answer = acceptance (s .line + 1); next = nextFor s (kindOf e) (fieldsOf (kindOf e) (take 50 (lineFor s e t))); read = recordOf s e; text = t }
   of-accepted a q =
       let x = fieldsOf (kindOf e) (take 50 (lineFor s e t)) in
       let f : Fits (layout (kindOf e)) x = subst (λ m. Fits (layout m) (fieldsOf m (take 50 (lineFor s e t)))) q (a .fields .fits) in
@@ -285,10 +286,10 @@ module _ (s : State) (e : Entry) (t : List ℕ) (h : length t ≡ 35) where
       let r = ap (recordFor (kindOf e)) (b .0) ∙ record-back s t e (b .1) in
       let y = ap (textFor (kindOf e)) (b .0) ∙ text-back-is s t e h (b .1) in
       a .step ∙ ap (λ m. takenAs s m (fieldsOf m (take 50 (lineFor s e t)))) q
-      ∙ ap₂ (λ i j. record { answer = 0; line = s .line + 1; column = 0; next = nextFor s (kindOf e) x; read = i; text = j }) r y
+      ∙ ap₂ (λ i j. record { answer = acceptance (s .line + 1); next = nextFor s (kindOf e) x; read = i; text = j }) r y
 
-  pub read-back : stepAt s (lineFor s e t) .answer ≡ 0 → stepAt s (lineFor s e t) ≡ record { answer = 0; line = s .line + 1; column = 0; next = stepAt s (lineFor s e t) .next; read = recordOf s e; text = t }
+  pub read-back : stepAt s (lineFor s e t) .answer .number ≡ 0 → stepAt s (lineFor s e t) ≡ record { answer = acceptance (s .line + 1); next = stepAt s (lineFor s e t) .next; read = recordOf s e; text = t }
   read-back z =
       let a = accepts s (lineFor s e t) (omega (arith, line-52)) z in
       let q = of-accepted a (one-kind (a .kind) (kindOf e) (a .coded) front-code) in
-      q ∙ ap (λ n. record { answer = 0; line = s .line + 1; column = 0; next = n; read = recordOf s e; text = t }) (sym (ap (λ (r : LineRead). r .next) q))
+      q ∙ ap (λ n. record { answer = acceptance (s .line + 1); next = n; read = recordOf s e; text = t }) (sym (ap (λ (r : LineRead). r .next) q))

@@ -10,8 +10,8 @@ use lib.ListN.{length, take, drop}
 use lib.Seq.{take-at}
 use lib.Dec.{T, eqb, leb}
 use Rattle.machine.specs.Lists.{pick}
-use Rattle.reading.specs.State.{within}
-use Rattle.reading.specs.Step.{isDone, nothingRead, endedAt, stepAt}
+use Rattle.format.specs.Answers.{refusal}
+use Rattle.reading.specs.Step.{stepAt}
 use Rattle.reading.specs.declared.State.{State}
 use Rattle.reading.specs.declared.LineRead.{LineRead}
 use Rattle.writer.specs.Entries.{lineFor}
@@ -28,37 +28,28 @@ use Rattle.writer.proofs.Again.{none≢some, written-again}
 
 -- an answer 0 is the reader's, and there was room
 module _ (s : State) (r : LineRead) (room : ℕ) where
-  sorted : writtenBy s room r .answer ≡ 0 → (eqb (r .answer) 0 ≡ true) × (leb 52 room ≡ true)
+  sorted : writtenBy s room r .answer .number ≡ 0 → (eqb (r .answer .number) 0 ≡ true) × (leb 52 room ≡ true)
   unfolding pick
-  sorted z = by (eqb (r .answer) 0) (leb 52 room) refl z
+  sorted z = by (eqb (r .answer .number) 0) (leb 52 room) refl z
     where
-      by : (a b : Bool) → eqb (r .answer) 0 ≡ a → pick a (pick b (answered 0 (r .line) 0 (r .next)) (answered 12 (r .line) 0 s)) (answered (r .answer) (r .line) (r .column) s) .answer ≡ 0 → (a ≡ true) × (b ≡ true)
+      by : (a b : Bool) → eqb (r .answer .number) 0 ≡ a → pick a (pick b (answered (r .answer) (r .next)) (answered (refusal 12 (r .answer .line) 0) s)) (answered (r .answer) s) .answer .number ≡ 0 → (a ≡ true) × (b ≡ true)
       by true true e z = (refl, refl)
       by true false e z = absurd (omega arith)
-      by false b e z = absurd (subst T (sym (eq-eqb (r .answer) 0 z) ∙ e) tt)
+      by false b e z = absurd (subst T (sym (eq-eqb (r .answer .number) 0 z) ∙ e) tt)
 
-  taken : eqb (r .answer) 0 ≡ true → leb 52 room ≡ true → writtenBy s room r ≡ answered 0 (r .line) 0 (r .next)
+  taken : eqb (r .answer .number) 0 ≡ true → leb 52 room ≡ true → writtenBy s room r ≡ answered (r .answer) (r .next)
   unfolding pick
   taken a b = rw (a, b)
 
-filled : (r : LineRead) (line out : List ℕ) → eqb (r .answer) 0 ≡ true → leb 52 (length out) ≡ true → roomBy r line out ≡ line ++ drop 52 out
+filled : (r : LineRead) (line out : List ℕ) → eqb (r .answer .number) 0 ≡ true → leb 52 (length out) ≡ true → roomBy r line out ≡ line ++ drop 52 out
 unfolding pick
 filled r line out a b = rw (a, b)
 
 -- ## What is read has some bytes
 
-no-bytes : (s : State) (e : Entry) → entryOf (endedAt s .read) ≡ some e → ⊥
-unfolding endedAt pick
-no-bytes s e q = by (within s) (isDone s) q
-  where
-    by : (a b : Bool) → entryOf (pick a (pick b (nothingRead s 0 (s .line) 0) (nothingRead s 10 (s .line + 1) 0)) (nothingRead s 24 0 0) .read) ≡ some e → ⊥
-    by true true q = none≢some e q
-    by true false q = none≢some e q
-    by false b q = none≢some e q
-
 some-bytes : (s : State) (xs : List ℕ) (e : Entry) → entryOf (stepAt s xs .read) ≡ some e → 0 < length xs
 unfolding stepAt
-some-bytes s [] e q = absurd (no-bytes s e q)
+some-bytes s [] e q = absurd (none≢some e q)
 some-bytes s (x ∷ xs) e q = omega arith
 
 -- ## The two promises
@@ -71,13 +62,13 @@ module _ (s : State) (e : Entry) (t : List ℕ) (h : length t ≡ 35) where
       let r = stepAt s (lineFor s e t) in
       let p = sorted s r (length out) z in
       let w = taken s r (length out) (p .0) (p .1) in
-      let f = read-back s e t h (eqb-true (r .answer) 0 (p .0)) in
+      let f = read-back s e t h (eqb-true (r .answer .number) 0 (p .0)) in
       let o = ap (take 52) (filled r l out (p .0) (p .1)) ∙ take-at l (drop 52 out) 52 (line-52 s e t h) in
       record {
-        next-line = ap (λ (v : Written). v .line) w ∙ ap (λ (v : LineRead). v .line) f;
+        next-line = ap (λ (v : Written). v .answer) w ∙ ap (λ (v : LineRead). v .answer) f;
         same-record = λ rest.
             ap (λ m. stepAt s (m ++ rest)) o ∙ sym (step-front s (l ++ rest)) ∙ ap (stepAt s) (take-at l rest 52 (line-52 s e t h)) ∙ f
-            ∙ ap₂ (λ n u. record { answer = 0; line = n; column = 0; next = u; read = recordOf s e; text = t }) (sym (ap (λ (v : Written). v .line) w ∙ ap (λ (v : LineRead). v .line) f)) (sym (ap (λ (v : Written). v .next) w));
+            ∙ ap₂ (λ a u. record { answer = a; next = u; read = recordOf s e; text = t }) (sym (ap (λ (v : Written). v .answer) w ∙ ap (λ (v : LineRead). v .answer) f)) (sym (ap (λ (v : Written). v .next) w));
       }
 
   pub writes-again : (out : List ℕ) → WritesAgain s e t (length out) (writtenOf s e t (length out)) (roomOf s e t out)
@@ -86,10 +77,10 @@ module _ (s : State) (e : Entry) (t : List ℕ) (h : length t ≡ 35) where
       let l = lineFor s e t in
       let m : take 52 xs ≡ lineFor s e t = written-again s xs (some-bytes s xs e q) z e q ∙ ap (lineFor s e) y in
       let r : stepAt s (lineFor s e t) ≡ stepAt s xs = ap (stepAt s) (sym m) ∙ step-front s xs in
-      let a : eqb (stepAt s (lineFor s e t) .answer) 0 ≡ true = eq-eqb (stepAt s (lineFor s e t) .answer) 0 (ap (λ (v : LineRead). v .answer) r ∙ z) in
+      let a : eqb (stepAt s (lineFor s e t) .answer .number) 0 ≡ true = eq-eqb (stepAt s (lineFor s e t) .answer .number) 0 (ap (λ (v : LineRead). v .answer .number) r ∙ z) in
       let b = le-leb 52 (length out) n in
       record {
-        same-answer = taken s (stepAt s l) (length out) a b ∙ ap (λ (v : LineRead). answered 0 (v .line) 0 (v .next)) r;
+        same-answer = taken s (stepAt s l) (length out) a b ∙ ap (λ (v : LineRead). answered (v .answer) (v .next)) r;
         same-bytes = ap (take 52) (filled (stepAt s l) l out a b) ∙ take-at l (drop 52 out) 52 (line-52 s e t h) ∙ sym m;
       }
 

@@ -7,6 +7,8 @@ use borrow.Author.Needs.{needs}
 use borrow.Author.Tests.{eq-eqb, ne-eqb, le-leb, lt-leb}
 use lib.ListN.{length, drop}
 use Rattle.machine.specs.Lists.{pick, putIn}
+use Rattle.format.specs.Answers.{refusal}
+use Rattle.format.specs.declared.Answer.{Answer}
 use Rattle.field.proofs.Putting.{put-front}
 use Rattle.reading.specs.Step.{stepAt}
 use Rattle.reading.specs.declared.State.{State}
@@ -19,28 +21,28 @@ use Rattle.writer.specs.declared.Written.{Written}
 -- ## By what the reader says
 
 module _ {r x : LineRead} (s : State) (room : ℕ) (e : r ≡ x) where
-  pub by-refusal : {w : Written} → (r .answer ≡ 0 → ⊥) → w ≡ answered (r .answer) (r .line) (r .column) s → w ≡ writtenBy s room x
+  pub by-refusal : {w : Written} → (r .answer .number ≡ 0 → ⊥) → w ≡ answered (r .answer) s → w ≡ writtenBy s room x
   unfolding pick
   by-refusal z h = h ∙ sym (ap (writtenBy s room) (sym e) ∙ rw (ne-eqb _ _ z))
 
-  pub by-room : {w : Written} → r .answer ≡ 0 → room < 52 → w ≡ answered 12 (r .line) 0 s → w ≡ writtenBy s room x
+  pub by-room : {w : Written} {a : Answer} → r .answer .number ≡ 0 → room < 52 → a ≡ refusal 12 (r .answer .line) 0 → w ≡ answered a s → w ≡ writtenBy s room x
   unfolding pick
-  by-room z l h = h ∙ sym (ap (writtenBy s room) (sym e) ∙ rw (eq-eqb _ _ z, lt-leb 52 room l))
+  by-room z l f h = h ∙ ap (λ a. answered a s) f ∙ sym (ap (writtenBy s room) (sym e) ∙ rw (eq-eqb _ _ z, lt-leb 52 room l))
 
-  pub by-acceptance : {w : Written} → r .answer ≡ 0 → 52 ≤ room → w ≡ answered 0 (r .line) 0 (r .next) → w ≡ writtenBy s room x
+  pub by-acceptance : {w : Written} → r .answer .number ≡ 0 → 52 ≤ room → w ≡ answered (r .answer) (r .next) → w ≡ writtenBy s room x
   unfolding pick
   by-acceptance z l h = h ∙ sym (ap (writtenBy s room) (sym e) ∙ rw (eq-eqb _ _ z, le-leb 52 room l))
 
 module _ {r x : LineRead} {o : List ℕ} (line out : List ℕ) (e : r ≡ x) where
-  pub room-refused : (r .answer ≡ 0 → ⊥) → o ≡ out → o ≡ roomBy x line out
+  pub room-refused : (r .answer .number ≡ 0 → ⊥) → o ≡ out → o ≡ roomBy x line out
   unfolding pick
   room-refused z h = h ∙ sym (ap (λ y. roomBy y line out) (sym e) ∙ rw (ne-eqb _ _ z))
 
-  pub room-small : r .answer ≡ 0 → length out < 52 → o ≡ out → o ≡ roomBy x line out
+  pub room-small : r .answer .number ≡ 0 → length out < 52 → o ≡ out → o ≡ roomBy x line out
   unfolding pick
   room-small z l h = h ∙ sym (ap (λ y. roomBy y line out) (sym e) ∙ rw (eq-eqb _ _ z, lt-leb 52 (length out) l))
 
-  pub room-filled : length line ≡ 52 → r .answer ≡ 0 → 52 ≤ length out → o ≡ putIn out 0 line → o ≡ roomBy x line out
+  pub room-filled : length line ≡ 52 → r .answer .number ≡ 0 → 52 ≤ length out → o ≡ putIn out 0 line → o ≡ roomBy x line out
   unfolding pick
   room-filled n z l h = put-front out line (omega arith) h ∙ ap (λ m. line ++ drop m out) n ∙ sym (ap (λ y. roomBy y line out) (sym e) ∙ rw (eq-eqb _ _ z, le-leb 52 (length out) l))
 

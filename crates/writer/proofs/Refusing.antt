@@ -13,8 +13,6 @@ use Rattle.machine.proofs.Base.{of-eq, true≢false}
 use Rattle.format.specs.Fields.{Field, numeric, filled, optional, free, filler, width, widths, wellFormed}
 use Rattle.format.specs.Records.{layout, code}
 use Rattle.format.specs.Tests.{Test, Tests}
-use Rattle.format.specs.declared.Code.{Code}
-use Rattle.format.specs.declared.Code.the-variants.{Of, Unknown}
 use Rattle.format.proofs.Link.{line-widths}
 use Rattle.field.specs.Rows.{Row, partAt, firstAnswer, fieldAnswer, rowsAt, checkRows, firstOr}
 use Rattle.record.specs.Kinds.{codeOf}
@@ -22,10 +20,9 @@ use Rattle.record.specs.Faults.{faultAt, noFault, firstFault, fieldsOf, testsFo
 use Rattle.record.specs.declared.Fault.{Fault}
 use Rattle.reading.specs.State.{within}
 use Rattle.reading.specs.Order.{allowed}
-use Rattle.reading.specs.Step.{nextFor, refused, taken, judgedAs, judgedKind, judgedCode, judgedLine, isWhole, isDone, judgedFirst, readBy, stepAt}
+use Rattle.reading.specs.Step.{nextFor, refused, taken, judgedAs, judgedKind, judgedCode, judgedLine, isWhole, isDone, judgedFirst, stepAt}
 use Rattle.reading.specs.declared.State.{State}
 use Rattle.reading.specs.declared.Judged.{Judged}
-use Rattle.reading.specs.declared.LineRead.{LineRead}
 use Rattle.writer.specs.Encoding.{Given, Givens, encodeField, encodeFields}
 use Rattle.writer.specs.Entries.{kindOf, givenFor, lineFor}
 use Rattle.writer.specs.Writing.{answered, writtenBy, writtenOf}
@@ -33,9 +30,8 @@ use Rattle.writer.specs.Promises.{isUnfit, unfitFrom, unfitColumn, Refus
 use Rattle.writer.specs.declared.Entry.{Entry}
 use Rattle.writer.specs.declared.Written.{Written}
 use Rattle.writer.proofs.Placing.{answer-via}
-use Rattle.reading.proofs.Answers.{step-first}
+use Rattle.reading.proofs.Answers.{step-judged}
 use Rattle.record.proofs.Coding.{code-found}
-use Rattle.writer.proofs.Accepting.{step-answer}
 use Rattle.writer.proofs.Back.{Sized, AllSized, field-long, field-back, sized, line-52, front-code, front-body}
 
 -- ## Rows
@@ -166,24 +162,15 @@ module _ (s : State) (e : Entry) (t : List ℕ) (h : length t ≡ 35) (z : unfit
       by true false false f = before 1 0 (λ i. omega arith) (omega arith)
       by false b c f = before 24 0 (λ i. omega arith) (omega arith)
 
-  step-column : (l : List ℕ) (c : Code) (j : Judged) → readBy l c j .column ≡ j .column
-  step-column l (Of k) j = refl
-  step-column l Unknown j = refl
-
-  step-stops : Stopped (unfitColumn s e t) (stepAt s (lineFor s e t) .answer) (stepAt s (lineFor s e t) .column)
-  step-stops =
-      let j = judgedFirst s (lineFor s e t) in
-      let r = step-first s (lineFor s e t) (omega (arith, line-52 s e t h)) in
-      let a = ap (λ (v : LineRead). v .answer) r ∙ step-answer line (j .code) j in
-      let b = ap (λ (v : LineRead). v .column) r ∙ step-column line (j .code) j in
-      subst (λ n. Stopped (unfitColumn s e t) n (stepAt s (lineFor s e t) .column)) (sym a) (subst (Stopped (unfitColumn s e t) (j .number)) (sym b) first-stops)
+  step-stops : Stopped (unfitColumn s e t) (stepAt s (lineFor s e t) .answer .number) (stepAt s (lineFor s e t) .answer .column)
+  step-stops = let r = step-judged s (lineFor s e t) (omega (arith, line-52 s e t h)) in rw (r .0, r .1) first-stops
 
   refused-by : (room : ℕ) → RefusedBy (unfitColumn s e t) (writtenOf s e t room)
   unfolding writtenOf pick
   refused-by room =
       let f = step-stops in
       let r = stepAt s (lineFor s e t) in
-      let w : writtenBy s room r ≡ answered (r .answer) (r .line) (r .column) s = rw (ne-eqb (r .answer) 0 (f .some)) in
+      let w : writtenBy s room r ≡ answered (r .answer) s = rw (ne-eqb (r .answer .number) 0 (f .some)) in
       subst (RefusedBy (unfitColumn s e t)) (sym w) (record { refused = f .some; no-further = f .no-later; form-there = f .there })
 
 pub unfit-via : {l : List ℕ} {w : Written} (s : State) (e : Entry) (t : List ℕ) (room : ℕ) → l ≡ lineFor s e t → w ≡ writtenBy s room (stepAt s l) → length t ≡ 35 → RefusesUnfit s e t w

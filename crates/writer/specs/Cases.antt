@@ -5,6 +5,8 @@ use mathlib.Core.List.{List, [], _∷_, _++_}
 use mathlib.Core.Bool.{true, false}
 use lib.ListN.{take, drop, replicate}
 use Rattle.machine.specs.Lists.{spaces}
+use Rattle.format.specs.Answers.{refusal, acceptance}
+use Rattle.format.specs.declared.Answer.{Answer}
 use Rattle.format.specs.declared.Group.the-variants.{Payments}
 use Rattle.format.specs.declared.TransactionType.the-variants.{Salary}
 use Rattle.record.specs.Faults.{nothingBefore, afterHeader}
@@ -39,12 +41,9 @@ batchAt line p name =
 abbrev pub salaryOf : ℕ → Entry
 salaryOf amount = Item (record { kind = Salary; amount = amount; payer = 123456789; beneficiary = 1234 })
 
-abbrev pub told : Written → List ℕ
-told w = w .answer ∷ w .line ∷ w .column ∷ []
-
--- answer, line and column, with so much room
-abbrev pub Told : State → Entry → List ℕ → ℕ → ℕ → ℕ → ℕ → Type 0
-Told s e t room answer line column = told (writtenOf s e t room) ≡ answer ∷ line ∷ column ∷ []
+-- with so much room
+abbrev pub Answers : State → Entry → List ℕ → ℕ → Answer → Type 0
+Answers s e t room a = writtenOf s e t room .answer ≡ a
 
 -- after the ordering party of a batch of an account, and after an item of one cent of it
 abbrev pub orderedOf : ℕ → State
@@ -63,41 +62,41 @@ afterCent payer beneficiary = writtenOf (orderedOf payer) (Item (record { kind =
 -- the two accounts of a batch's one item, their sum, and the ten digits of it with which the trailer is written, and accepted
 pub record SumWritten (payer beneficiary sum : ℕ) (digits : List ℕ) : Type 0 where
   pub sum-of : payer + beneficiary ≡ sum
-  pub item-written : told (afterCent payer beneficiary) ≡ 0 ∷ 4 ∷ 0 ∷ []
+  pub item-written : afterCent payer beneficiary .answer ≡ acceptance 4
   pub digits-written : take 10 (drop 23 (lineFor (afterCent payer beneficiary .next) BatchTrailer (letters 0))) ≡ digits
-  pub trailer-written : Told (afterCent payer beneficiary .next) BatchTrailer (letters 0) 52 0 5 0
+  pub trailer-written : Answers (afterCent payer beneficiary .next) BatchTrailer (letters 0) 52 (acceptance 5)
 
 pub record Cases : Type 0 where
-  pub header : Told startState (FileHeader 150309 1501 1) (letters 5) 52 0 1 0
-  pub no-room : Told startState (FileHeader 150309 1501 1) (letters 5) 51 12 1 0
+  pub header : Answers startState (FileHeader 150309 1501 1) (letters 5) 52 (acceptance 1)
+  pub no-room : Answers startState (FileHeader 150309 1501 1) (letters 5) 51 (refusal 12 1 0)
   -- 12 only where nothing else applies
-  pub refused-first : Told startState (FileHeader 150309 1501 1) (letters 6) 51 4 1 20
+  pub refused-first : Answers startState (FileHeader 150309 1501 1) (letters 6) 51 (refusal 4 1 20)
   -- what a field cannot carry, at its column
-  pub date-too-large : Told startState (FileHeader 1150309 1501 1) (letters 5) 52 4 1 6
-  pub sender-too-long : Told startState (FileHeader 150309 1501 1) (letters 6) 52 4 1 20
-  pub identification-too-large : Told startState (FileHeader 150309 15010 1) (letters 5) 52 4 1 25
-  pub duplicate-too-large : Told startState (FileHeader 150309 1501 10) (letters 5) 52 4 1 29
-  pub furthest-left : Told startState (FileHeader 150309 15010 10) (letters 6) 52 4 1 20
-  pub batch-without-identification : Told (batchAt 5 stage.Closed Unwanted) (BatchHeader Payments 123456789 2 false) (letters 0) 52 0 6 0
-  pub batch-with-identification : Told (batchAt 5 stage.Closed Unwanted) (BatchHeader Payments 123456789 2 true) (letters 16) 52 0 6 0
-  pub identification-in-b : Told (batchAt 5 stage.Closed Unwanted) (BatchHeader Payments 123456789 2 false) (letters 16) 52 4 6 25
-  pub identification-too-long : Told (batchAt 5 stage.Closed Unwanted) (BatchHeader Payments 123456789 2 true) (letters 17) 52 4 6 25
-  pub account-too-large : Told (batchAt 5 stage.Closed Unwanted) (BatchHeader Payments 12345678900 2 false) (letters 0) 52 4 6 8
-  pub sequence-too-large : Told (batchAt 5 stage.Closed Unwanted) (BatchHeader Payments 123456789 10000 false) (letters 0) 52 4 6 18
-  pub item : Told (batchAt 3 stage.Ordered Unwanted) (salaryOf 15000) (letters 0) 52 0 4 0
-  pub item-with-text : Told (batchAt 3 stage.Ordered Unwanted) (salaryOf 15000) (letters 1) 52 4 4 42
-  pub amount-too-large : Told (batchAt 3 stage.Ordered Unwanted) (salaryOf 1000000000000) (letters 0) 52 4 4 10
-  pub reference-too-long : Told (batchAt 4 stage.Item Unwanted) PaymentReference (letters 17) 52 4 5 6
-  pub name-of-35 : Told (batchAt 4 stage.Item Due) NameBeneficiary (letters 35) 52 0 5 0
-  pub batch-trailer : Told (batchAt 4 stage.Item Unwanted) BatchTrailer (letters 0) 52 0 5 0
-  pub batch-trailer-with-text : Told (batchAt 4 stage.Item Unwanted) BatchTrailer (letters 1) 52 4 5 41
-  pub file-trailer : Told (batchAt 5 stage.Closed Unwanted) FileTrailer (letters 0) 52 0 6 0
-  pub file-trailer-with-text : Told (batchAt 5 stage.Closed Unwanted) FileTrailer (letters 35) 52 4 6 6
+  pub date-too-large : Answers startState (FileHeader 1150309 1501 1) (letters 5) 52 (refusal 4 1 6)
+  pub sender-too-long : Answers startState (FileHeader 150309 1501 1) (letters 6) 52 (refusal 4 1 20)
+  pub identification-too-large : Answers startState (FileHeader 150309 15010 1) (letters 5) 52 (refusal 4 1 25)
+  pub duplicate-too-large : Answers startState (FileHeader 150309 1501 10) (letters 5) 52 (refusal 4 1 29)
+  pub furthest-left : Answers startState (FileHeader 150309 15010 10) (letters 6) 52 (refusal 4 1 20)
+  pub batch-without-identification : Answers (batchAt 5 stage.Closed Unwanted) (BatchHeader Payments 123456789 2 false) (letters 0) 52 (acceptance 6)
+  pub batch-with-identification : Answers (batchAt 5 stage.Closed Unwanted) (BatchHeader Payments 123456789 2 true) (letters 16) 52 (acceptance 6)
+  pub identification-in-b : Answers (batchAt 5 stage.Closed Unwanted) (BatchHeader Payments 123456789 2 false) (letters 16) 52 (refusal 4 6 25)
+  pub identification-too-long : Answers (batchAt 5 stage.Closed Unwanted) (BatchHeader Payments 123456789 2 true) (letters 17) 52 (refusal 4 6 25)
+  pub account-too-large : Answers (batchAt 5 stage.Closed Unwanted) (BatchHeader Payments 12345678900 2 false) (letters 0) 52 (refusal 4 6 8)
+  pub sequence-too-large : Answers (batchAt 5 stage.Closed Unwanted) (BatchHeader Payments 123456789 10000 false) (letters 0) 52 (refusal 4 6 18)
+  pub item : Answers (batchAt 3 stage.Ordered Unwanted) (salaryOf 15000) (letters 0) 52 (acceptance 4)
+  pub item-with-text : Answers (batchAt 3 stage.Ordered Unwanted) (salaryOf 15000) (letters 1) 52 (refusal 4 4 42)
+  pub amount-too-large : Answers (batchAt 3 stage.Ordered Unwanted) (salaryOf 1000000000000) (letters 0) 52 (refusal 4 4 10)
+  pub reference-too-long : Answers (batchAt 4 stage.Item Unwanted) PaymentReference (letters 17) 52 (refusal 4 5 6)
+  pub name-of-35 : Answers (batchAt 4 stage.Item Due) NameBeneficiary (letters 35) 52 (acceptance 5)
+  pub batch-trailer : Answers (batchAt 4 stage.Item Unwanted) BatchTrailer (letters 0) 52 (acceptance 5)
+  pub batch-trailer-with-text : Answers (batchAt 4 stage.Item Unwanted) BatchTrailer (letters 1) 52 (refusal 4 5 41)
+  pub file-trailer : Answers (batchAt 5 stage.Closed Unwanted) FileTrailer (letters 0) 52 (acceptance 6)
+  pub file-trailer-with-text : Answers (batchAt 5 stage.Closed Unwanted) FileTrailer (letters 35) 52 (refusal 4 6 6)
   -- the reader's other answers
-  pub name-lacking : Told (batchAt 4 stage.Item Due) BatchTrailer (letters 0) 52 3 5 1
-  pub too-much : Told (batchAt 3 stage.Ordered Unwanted) (salaryOf 45378021609) (letters 0) 52 5 4 10
-  pub after-trailer : Told (batchAt 6 stage.Done Unwanted) FileTrailer (letters 35) 0 11 7 0
-  pub beyond-limits : Told (batchAt 7000000000 stage.Closed Unwanted) FileTrailer (letters 0) 52 24 0 0
+  pub name-lacking : Answers (batchAt 4 stage.Item Due) BatchTrailer (letters 0) 52 (refusal 3 5 1)
+  pub too-much : Answers (batchAt 3 stage.Ordered Unwanted) (salaryOf 45378021609) (letters 0) 52 (refusal 5 4 10)
+  pub after-trailer : Answers (batchAt 6 stage.Done Unwanted) FileTrailer (letters 35) 0 (refusal 11 7 0)
+  pub beyond-limits : Answers (batchAt 7000000000 stage.Closed Unwanted) FileTrailer (letters 0) 52 (refusal 24 0 0)
   -- the bytes of a line: 0001A150309CLIEOP03AAAAA15011, and the trailer's numbers from the state
   pub header-bytes : lineFor startState (FileHeader 150309 1501 1) (letters 5) ≡ 48 ∷ 48 ∷ 48 ∷ 49 ∷ 65 ∷ 49 ∷ 53 ∷ 48 ∷ 51 ∷ 48 ∷ 57 ∷ 67 ∷ 76 ∷ 73 ∷ 69 ∷ 79 ∷ 80 ∷ 48 ∷ 51 ∷ 65 ∷ 65 ∷ 65 ∷ 65 ∷ 65 ∷ 49 ∷ 53 ∷ 48 ∷ 49 ∷ 49 ∷ (spaces 21 ++ lineEnd)
   pub trailer-bytes : lineFor (batchAt 4 stage.Item Unwanted) BatchTrailer (letters 0) ≡ 57 ∷ 57 ∷ 57 ∷ 48 ∷ 65 ∷ 48 ∷ 48 ∷ 48 ∷ 48 ∷ 48 ∷ 48 ∷ 48 ∷ 48 ∷ 48 ∷ 48 ∷ 48 ∷ 48 ∷ 48 ∷ 49 ∷ 53 ∷ 48 ∷ 48 ∷ 48 ∷ 48 ∷ 49 ∷ 50 ∷ 51 ∷ 52 ∷ 53 ∷ 56 ∷ 48 ∷ 50 ∷ 51 ∷ 48 ∷ 48 ∷ 48 ∷ 48 ∷ 48 ∷ 48 ∷ 49 ∷ (spaces 10 ++ lineEnd)

@@ -11,7 +11,7 @@ use Rattle.machine.specs.Lists.{pick, all, isSpace}
 use Rattle.machine.specs.Digits.{pow10}
 use Rattle.format.specs.Fields.{Field, numeric, filled, optional, free, filler, width, printable}
 use Rattle.format.specs.Records.{layout}
-use Rattle.format.specs.Answers.{accepted, wrongForm}
+use Rattle.format.specs.Answers.{accepted, wrongForm, acceptance}
 use Rattle.record.specs.declared.Record.{Record}
 use Rattle.record.specs.declared.Record.the-variants as read
 use Rattle.reading.specs.Step.{stepAt}
@@ -56,22 +56,22 @@ entryOf read.FileTrailer = some FileTrailer
 
 -- whatever follows it in the file, the reader accepts the line from the same state, hands out the record and the text that were given, and goes to the same next state
 pub record ReadAsWritten (s : State) (e : Entry) (t : List ℕ) (w : Written) (out : List ℕ) : Type 0 where
-  pub next-line : w .line ≡ s .line + 1
-  pub same-record : (rest : List ℕ) → stepAt s (take 52 out ++ rest) ≡ record { answer = accepted; line = w .line; column = 0; next = w .next; read = recordOf s e; text = t }
+  pub next-line : w .answer ≡ acceptance (s .line + 1)
+  pub same-record : (rest : List ℕ) → stepAt s (take 52 out ++ rest) ≡ record { answer = w .answer; next = w .next; read = recordOf s e; text = t }
 
 -- the same 52 bytes, with the same answer and next state
 pub record WrittenAsRead (s : State) (xs : List ℕ) (w : Written) (out : List ℕ) : Type 0 where
-  pub same-answer : w ≡ answered accepted (stepAt s xs .line) 0 (stepAt s xs .next)
+  pub same-answer : w ≡ answered (stepAt s xs .answer) (stepAt s xs .next)
   pub same-bytes : take 52 out ≡ take 52 xs
 
 -- WHAT IS WRITTEN IS READ: an answer w, and the room after it
 unfoldable pub ReadsBack : State → Entry → List ℕ → Written → List ℕ → Type 0
-ReadsBack s e t w out = w .answer ≡ accepted → ReadAsWritten s e t w out
+ReadsBack s e t w out = w .answer .number ≡ accepted → ReadAsWritten s e t w out
 
 -- WHAT WAS READ IS WRITTEN: where there is room, a record and text that the reader handed out of a line from the same state
 unfoldable pub WritesAgain : State → Entry → List ℕ → ℕ → Written → List ℕ → Type 0
 WritesAgain s e t room w out =
-    52 ≤ room → (xs : List ℕ) → stepAt s xs .answer ≡ accepted → entryOf (stepAt s xs .read) ≡ some e → stepAt s xs .text ≡ t → WrittenAsRead s xs w out
+    52 ≤ room → (xs : List ℕ) → stepAt s xs .answer .number ≡ accepted → entryOf (stepAt s xs .read) ≡ some e → stepAt s xs .text ≡ t → WrittenAsRead s xs w out
 
 -- a text that a field of this width can carry: of 'bytes 32 to 126', with only spaces beyond the field
 abbrev pub isTextFit : ℕ → List ℕ → Bool
@@ -94,9 +94,9 @@ abbrev pub unfitColumn : State → Entry → List ℕ → ℕ
 unfitColumn s e t = unfitFrom 6 (layout (kindOf e)) (givenFor s t e)
 
 pub record RefusedBy (column : ℕ) (w : Written) : Type 0 where
-  pub refused : w .answer ≢ accepted
-  pub no-further : w .column ≤ column
-  pub form-there : w .column ≡ column → w .answer ≡ wrongForm
+  pub refused : w .answer .number ≢ accepted
+  pub no-further : w .answer .column ≤ column
+  pub form-there : w .answer .column ≡ column → w .answer .number ≡ wrongForm
 
 -- WHAT A FIELD CANNOT CARRY IS REFUSED: 4 at its column, where nothing else is wrong before it
 unfoldable pub RefusesUnfit : State → Entry → List ℕ → Written → Type 0

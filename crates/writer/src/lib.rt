@@ -5,6 +5,7 @@ ghost use Rattle.reading.specs.Step.{stepAt};
 ghost use Rattle.writer.specs.Promises.{ReadsBack, WritesAgain, RefusesUnfit};
 ghost use Rattle.writer.specs.Writing.{writtenBy, roomBy, writtenOf, roomOf};
 use field::bytes::put;
+use format::Answer;
 use format::Group;
 use lines::entry_line;
 use reading::State;
@@ -43,9 +44,7 @@ pub enum Entry {
 
 // What a record to write is answered, and the state after it.
 pub struct Written {
-    pub answer: u8,
-    pub line: u64,
-    pub column: u8,
+    pub answer: Answer,
     pub next: State,
 }
 
@@ -55,33 +54,25 @@ fn write_line(state: State, line: [u8; 52], out: &mut [u8]) -> Written
     ensures bytes { λ _. ⌜ now (out .exit) ≡ roomBy (stepAt state line) line (now (out .entry)) ⌝ }
 {
     let r = state.line(&line);
+    let answer = r.answer;
     let next = r.next;
-    if r.answer != 0 {
+    if answer.number != 0 {
         return Written {
-            answer: r.answer,
-            line: r.line,
-            column: r.column,
+            answer,
             next: state,
         };
     }
     if out.len() < 52 {
         return Written {
-            answer: format::NO_ROOM,
-            line: r.line,
-            column: 0,
+            answer: Answer::refusal(format::NO_ROOM, answer.line, 0),
             next: state,
         };
     }
     put(&line, 0, out);
-    Written {
-        answer: 0,
-        line: r.line,
-        column: 0,
-        next,
-    }
+    Written { answer, next }
 }
 
-// Writes one record after those so far: its answer, line and column, and the state after it.
+// Writes one record after those so far: its answer, and the state after it.
 pub fn write(state: State, entry: Entry, text: [u8; 35], out: &mut [u8]) -> Written
     ensures answer { λ w. ⌜ w ≡ writtenOf state entry text (length (now (out .entry))) ⌝ }
     ensures bytes { λ _. ⌜ now (out .exit) ≡ roomOf state entry text (now (out .entry)) ⌝ }

@@ -9,10 +9,12 @@ put-answer-spec =
     tie.close
     (tie.spec
     (λ c. search needs)  -- slice-aggregate-put-number
+    (λ c. search needs)  -- cast-put-number
     (λ c κs. search needs)  -- put-number-requires
     (λ c. search needs)  -- slice-aggregate-put-number-2
     (λ c κs. search needs)  -- put-number-requires-2
     (λ c. search needs)  -- slice-aggregate-put-number-3
+    (λ c. search needs)  -- cast-put-number-2
     (λ c κs. search needs)  -- put-number-requires-3
     (λ c. search needs)  -- same-length
     (λ c. search answers depth 20 fits 10000)  -- returns

@@ -11,6 +11,7 @@ rewrite-spec =
     (λ c κs. search needs)  -- check-requires
     (λ c. (search rooms depth 20 fits 10000, (search rooms depth 20 fits 10000, search (promise-none, needs) depth 20 fits 10000)))  -- returns
     (λ c κs. search needs)  -- size-requires
+    (λ c κs. search needs)  -- refusal-requires
     (λ c. (search rooms depth 20 fits 10000, (search rooms depth 20 fits 10000, search (promise-small, needs) depth 20 fits 10000)))  -- returns-2
     (λ c κs. search (copy-asked, needs) depth 20 fits 10000)  -- copy-requires
     (λ c. search needs)  -- same-length

@@ -10,6 +10,7 @@ write-line-spec =
     (λ c. search needs)  -- slice-aggregate-line
     (λ c κs. search needs)  -- line-requires
     (λ c. search rooms depth 20 fits 10000)  -- returns
+    (λ c κs. search needs)  -- refusal-requires
     (λ c. search rooms depth 20 fits 10000)  -- returns-2
     (λ c. search needs)  -- slice-aggregate-put
     (λ c κs. search needs)  -- put-requires

@@ -8,8 +8,9 @@ answered-spec =
     tie.close
     (tie.spec
     (λ c κs. search needs)  -- is-within-requires
-    (λ c κs. search needs)  -- told-requires
+    (λ c κs. search needs)  -- hand-out-requires
     (λ c κs. search needs)  -- refusal-requires
+    (λ c κs. search needs)  -- refused-requires
     (λ c. search needs)  -- same-length
     (λ c. (search limits depth 20 fits 10000, search limits depth 20 fits 10000))  -- returns
     (λ c. (search limits depth 20 fits 10000, search limits depth 20 fits 10000))  -- returns-2

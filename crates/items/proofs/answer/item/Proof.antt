@@ -11,7 +11,7 @@ item-spec =
     (λ c κs. search needs)  -- check-requires
     (λ c κs. search needs)  -- start-requires
     (λ c κs. search needs)  -- lines-requires
-    (λ c κs. search needs)  -- told-requires
+    (λ c κs. search needs)  -- hand-out-requires
     (λ c. search needs)  -- same-length
     (λ c. (search (item-via, needs) depth 20 fits 10000, (search (room-via, needs) depth 20 fits 10000, search (promised-via, needs) depth 20 fits 10000)))  -- returns
     )

@@ -7,9 +7,10 @@ pub rest-spec : {M : Type 1} → statement M
 rest-spec =
     tie.close
     (tie.spec
-    (λ c κs. search needs)
-    (λ c κs. search rest-named depth 20 fits 10000)
-    (λ c. search rest-stop depth 20 fits 10000)
-    (λ c κs. search needs)
-    (λ c. search rest-end depth 20 fits 10000)
+    (λ c κs. search needs)  -- lines-requires
+    (λ c κs. search rest-named depth 20 fits 10000)  -- refusal-line-requires
+    (λ c κs. search needs)  -- refusal-requires
+    (λ c. search rest-stop depth 20 fits 10000)  -- returns
+    (λ c κs. search needs)  -- ended-requires
+    (λ c. search rest-end depth 20 fits 10000)  -- returns-2
     )
