@@ -1,6 +1,6 @@
 -- The order of records (01, 'Order of records'): which kind may stand in a state.
 use Prim.Native.Nat.{ℕ}
-use mathlib.Core.Bool.{Bool, true, false, not, _&&_, _||_}
+use mathlib.Core.Bool.{Bool, not, _&&_, _||_}
 use lib.Dec.{ltb, eqb}
 use Rattle.format.specs.Rules.{maxFixed, mostDescriptions, sameGroup}
 use Rattle.format.specs.declared.Kind.{Kind}
@@ -87,19 +87,3 @@ allowedBy s FileTrailer = isStage (s .stage) Closed
 
 unfoldable pub allowed : State → Kind → Bool
 allowed s k = allowedBy s k
-
-abbrev pub isTransaction : Kind → Bool
-isTransaction FileHeader = false
-isTransaction BatchHeaderB = false
-isTransaction BatchHeaderC = false
-isTransaction FixedDescription = false
-isTransaction OrderingParty = false
-isTransaction Transaction = true
-isTransaction NamePayer = false
-isTransaction CityPayer = false
-isTransaction PaymentReference = false
-isTransaction Description = false
-isTransaction NameBeneficiary = false
-isTransaction CityBeneficiary = false
-isTransaction BatchTrailer = false
-isTransaction FileTrailer = false

@@ -1,4 +1,7 @@
 pub mod Typing
 pub mod Reading
 pub mod Faulting
+pub mod FileFaults
+pub mod BatchFaults
+pub mod ItemFaults
 pub mod Coding

@@ -13,6 +13,7 @@ use Rattle.format.specs.declared.Group.{Group}
 use Rattle.format.specs.declared.Group.the-variants.{Payments}
 use Rattle.field.specs.Rows.{Row, row, partAt, fieldAnswer, rowsAt, checkRows, fieldsAt, firstOr}
 use Rattle.format.specs.Fields.{filled, filler}
+use Rattle.record.specs.Kinds.{isTransaction}
 use Rattle.record.specs.declared.Fault.{Fault}
 use Rattle.record.specs.declared.Before.{Before}
 use Rattle.record.specs.declared.Batch.{Batch}
@@ -84,6 +85,10 @@ maximaFor b FileTrailer x = []
 unfoldable pub faultOf : Before → Batch → (k : Kind) → List ℕ → Fault
 faultOf p b k line =
     firstFault (rowsAt 6 (layout k) (testsFor p b k (fieldsOf k line)) line (checkRows (maximaFor b k (fieldsOf k line))))
+
+-- the same of all but a transaction, whose fields are read with their faults (`transactionOf`)
+unfoldable pub otherFault : Before → Batch → Kind → List ℕ → Fault
+otherFault p b k line = pick (isTransaction k) noFault (faultOf p b k line)
 
 -- the same for both variants of a batch header: C is identified
 abbrev pub headerFault : Bool → Before → List ℕ → Fault

@@ -1,7 +1,7 @@
 -- A line by the code and variant that it begins with, and the look-up of these in the record table. (No two codes are the same, so the order is of no matter: the records of a payment first, then those of debits, of a batch's frame and of a file's.)
 use Prim.Native.Nat.{ℕ}
 use mathlib.Core.List.{List}
-use mathlib.Core.Bool.{Bool, _||_}
+use mathlib.Core.Bool.{Bool, true, false, _||_}
 use lib.ListN.{take}
 use Rattle.machine.specs.Lists.{pick, same}
 use Rattle.format.specs.Records.{code}
@@ -21,6 +21,22 @@ isName line = begins NameBeneficiary line || begins NamePayer line
 
 unfoldable pub isCity : List ℕ → Bool
 isCity line = begins CityPayer line || begins CityBeneficiary line
+
+abbrev pub isTransaction : Kind → Bool
+isTransaction FileHeader = false
+isTransaction BatchHeaderB = false
+isTransaction BatchHeaderC = false
+isTransaction FixedDescription = false
+isTransaction OrderingParty = false
+isTransaction Transaction = true
+isTransaction NamePayer = false
+isTransaction CityPayer = false
+isTransaction PaymentReference = false
+isTransaction Description = false
+isTransaction NameBeneficiary = false
+isTransaction CityBeneficiary = false
+isTransaction BatchTrailer = false
+isTransaction FileTrailer = false
 
 unfoldable pub fileCode : List ℕ → Code
 fileCode c =

@@ -1,9 +1,12 @@
 use borrow.Author.Needs.{needs}
-use Rattle.record.proofs.Faulting.{at-file-header, at-header-b, at-header-c, at-fixed, at-ordering, at-transaction, at-name-payer, at-city-payer, at-reference, at-description, at-name-beneficiary, at-city-beneficiary, at-batch-trailer, at-file-trailer}
+use Rattle.machine.specs.Lists.{pick}
+use Rattle.record.specs.Faults.{fieldsFault, otherFault, faultOf, textFault}
+use Rattle.record.proofs.Faulting.{at-kind, at-header-b, at-header-c}
 use Rattle.record.proofs.faults.fault_in.Statement.{statement}
 use Rattle.record.proofs.faults.fault_in.Tie as tie
 
 pub fault-in-spec : {M : Type 1} → statement M
+unfolding otherFault faultOf fieldsFault textFault pick
 fault-in-spec =
     tie.close
     (tie.spec
@@ -18,7 +21,7 @@ fault-in-spec =
     (λ c. search needs)  -- enum-told-5
     (λ c κs. search needs)  -- ordering-party-requires
     (λ c. search needs)  -- enum-told-6
-    (λ c κs. search needs)  -- transaction-fault-requires
+    (λ c κs. search needs)  -- fault-requires
     (λ c. search needs)  -- enum-told-7
     (λ c κs. search needs)  -- text-requires-2
     (λ c. search needs)  -- enum-told-8
@@ -35,18 +38,18 @@ fault-in-spec =
     (λ c κs. search needs)  -- batch-trailer-requires
     (λ c. search needs)  -- enum-told-14
     (λ c κs. search needs)  -- file-trailer-requires
-    (λ c. search at-file-header depth 20 fits 10000)  -- returns
+    (λ c. search at-kind depth 20 fits 10000)  -- returns
     (λ c. search at-header-b depth 20 fits 10000)  -- returns-2
     (λ c. search at-header-c depth 20 fits 10000)  -- returns-3
-    (λ c. search at-fixed depth 20 fits 10000)  -- returns-4
-    (λ c. search at-ordering depth 20 fits 10000)  -- returns-5
-    (λ c. search at-transaction depth 20 fits 10000)  -- returns-6
-    (λ c. search at-name-payer depth 20 fits 10000)  -- returns-7
-    (λ c. search at-city-payer depth 20 fits 10000)  -- returns-8
-    (λ c. search at-reference depth 20 fits 10000)  -- returns-9
-    (λ c. search at-description depth 20 fits 10000)  -- returns-10
-    (λ c. search at-name-beneficiary depth 20 fits 10000)  -- returns-11
-    (λ c. search at-city-beneficiary depth 20 fits 10000)  -- returns-12
-    (λ c. search at-batch-trailer depth 20 fits 10000)  -- returns-13
-    (λ c. search at-file-trailer depth 20 fits 10000)  -- returns-14
+    (λ c. search at-kind depth 20 fits 10000)  -- returns-4
+    (λ c. search at-kind depth 20 fits 10000)  -- returns-5
+    (λ c. search at-kind depth 20 fits 10000)  -- returns-6
+    (λ c. search at-kind depth 20 fits 10000)  -- returns-7
+    (λ c. search at-kind depth 20 fits 10000)  -- returns-8
+    (λ c. search at-kind depth 20 fits 10000)  -- returns-9
+    (λ c. search at-kind depth 20 fits 10000)  -- returns-10
+    (λ c. search at-kind depth 20 fits 10000)  -- returns-11
+    (λ c. search at-kind depth 20 fits 10000)  -- returns-12
+    (λ c. search at-kind depth 20 fits 10000)  -- returns-13
+    (λ c. search at-kind depth 20 fits 10000)  -- returns-14
     )

@@ -1,7 +1,0 @@
-use borrow.Author.Needs.{needs}
-use Rattle.field.proofs.Numerics.{range-of}
-use Rattle.record.proofs.faults.amount_in.Statement.{statement}
-use Rattle.record.proofs.faults.amount_in.Tie as tie
-
-pub amount-in-spec : {M : Type 1} → statement M
-amount-in-spec = tie.close (tie.spec (λ c κs. search needs) (λ c κs. search needs) (λ c. search range-of))

@@ -1,0 +1,28 @@
+use borrow.Author.Needs.{needs}
+use Rattle.record.specs.Faults.{fieldsFault, firstFault}
+use Rattle.field.proofs.Rows.{rows}
+use Rattle.record.proofs.Faulting.{ends}
+use Rattle.record.proofs.faults.batch.ordering_party.Statement.{statement}
+use Rattle.record.proofs.faults.batch.ordering_party.Tie as tie
+
+pub ordering-party-spec : {M : Type 1} → statement M
+unfolding fieldsFault firstFault
+ordering-party-spec =
+    tie.close
+    (tie.spec
+    (λ c κs. search needs)  -- name-code-no-requires
+    (λ c κs. search needs)  -- fault-requires
+    (λ c. search rows depth 20 fits 10000)  -- returns
+    (λ c κs. search needs)  -- desired-no-requires
+    (λ c κs. search needs)  -- fault-requires-2
+    (λ c. search rows depth 20 fits 10000)  -- returns-2
+    (λ c κs. search needs)  -- optional-no-requires
+    (λ c κs. search needs)  -- fault-requires-3
+    (λ c. search rows depth 20 fits 10000)  -- returns-3
+    (λ c κs. search needs)  -- test-code-no-requires
+    (λ c κs. search needs)  -- fault-requires-4
+    (λ c. search rows depth 20 fits 10000)  -- returns-4
+    (λ c κs. search needs)  -- filler-no-requires
+    (λ c κs. search needs)  -- last-requires
+    (λ c. search ends depth 20 fits 10000)  -- returns-5
+    )

@@ -1,0 +1,7 @@
+use borrow.Author.Needs.{needs}
+use Rattle.record.proofs.ItemFaults.{party-via}
+use Rattle.record.proofs.faults.item.payer_in.Statement.{statement}
+use Rattle.record.proofs.faults.item.payer_in.Tie as tie
+
+pub payer-in-spec : {M : Type 1} → statement M
+payer-in-spec = tie.close (tie.spec (λ c κs. search needs) (λ c κs. search needs) (λ c. search party-via))
