@@ -6,27 +6,29 @@ use mathlib.Core.Bool.{Bool, true, false}
 use native.Mathlib.Omega.{arith}
 use borrow.Author.Tests.{eq-eqb, ne-eqb, ltb-true, eqb-true, eqb-false}
 use lib.ListN.{take}
-use lib.Dec.{T, eqb}
+use lib.Dec.{eqb}
 use Rattle.machine.specs.Lists.{pick}
-use Rattle.machine.proofs.Base.{and-second}
+use Rattle.machine.proofs.Base.{and-second, true≢false}
 use Rattle.format.specs.Records.{amount}
 use Rattle.format.specs.Rules.{maxFixed, maxDescriptions, mostDescriptions}
 use Rattle.format.specs.declared.Kind.{Kind}
 use Rattle.format.specs.declared.Kind.the-variants.{FileHeader, BatchHeaderB, BatchHeaderC, FixedDescription, OrderingParty, Transaction, NamePayer, CityPayer, PaymentReference, Description, NameBeneficiary, CityBeneficiary, BatchTrailer, FileTrailer}
 use Rattle.format.specs.declared.Code.{Code}
 use Rattle.format.specs.declared.Code.the-variants.{Of, Unknown}
-use Rattle.record.specs.Kinds.{codeOf}
-use Rattle.record.specs.Faults.{fieldsOf, maximaFault, faultOf}
+use Rattle.record.specs.Kinds.{isTransaction, codeOf}
+use Rattle.record.specs.Faults.{fieldsOf, maximaFault, faultOf, otherFault}
 use Rattle.record.specs.Read.{transactionFor, transactionOf, valuesOf}
 use Rattle.record.specs.declared.Before.{Before}
 use Rattle.record.specs.declared.Batch.{Batch}
 use Rattle.record.specs.declared.Fault.{Fault}
 use Rattle.record.specs.declared.TransactionRead.{TransactionRead}
 use Rattle.record.proofs.Reading.{valued}
-use Rattle.record.proofs.Faulting.{transaction-read, transaction-refused, transaction-taken, transaction-bounded, below-maxima, header-bounded, identified-bounded}
+use Rattle.format.proofs.Every.{every}
+use Rattle.record.proofs.BatchFaults.{header-bounded, identified-bounded}
+use Rattle.record.proofs.ItemFaults.{transaction-read, transaction-refused, transaction-taken, transaction-bounded, below-maxima}
 use Rattle.reading.specs.State.{Limited, within}
 use Rattle.reading.specs.Bounds.{Bounded}
-use Rattle.reading.specs.Order.{isTransaction, isStage, mayFix, mayText, mayDescribe, allowed}
+use Rattle.reading.specs.Order.{isStage, mayFix, mayText, mayDescribe, allowed}
 use Rattle.reading.specs.Step.{nextFor, paid, refused, taken, judgedBy, judgedAs, judgedKind, judgedCode, judgedLine, isWhole, isDone, judgedFirst}
 use Rattle.reading.specs.declared.Stage.the-variants.{Opened}
 use Rattle.reading.specs.declared.State.{State}
@@ -34,6 +36,11 @@ use Rattle.reading.specs.declared.Judged.{Judged}
 use Rattle.reading.proofs.Verdicts.{First, beyond, halted, moved, first}
 
 -- ## Any kind
+
+-- but for a transaction
+pub other-fault : {f : Fault} (s : State) (k : Kind) (line : List ℕ) → isTransaction k ≡ false → f ≡ otherFault (s .before) (s .batch) k line → f ≡ faultOf (s .before) (s .batch) k line
+unfolding otherFault pick
+other-fault s k line h e = e ∙ rw h
 
 module _ {f : Fault} (s : State) (k : Kind) (line : List ℕ) (e : f ≡ faultOf (s .before) (s .batch) k line) where
   pub as-refused : {x : Judged} → (f .number ≡ 0 → ⊥) → x ≡ refused s (f .column) (f .number) → x ≡ judgedAs s k line
@@ -70,21 +77,11 @@ pub ruleset pays = (pay-refused, pay-above, pay-taken)
 
 -- ## Kinds and codes
 
+no : {A : Type 0} → false ≡ true → A
+no h = absurd (true≢false (sym h))
+
 is-transaction : (k : Kind) → isTransaction k ≡ true → k ≡ Transaction
-is-transaction FileHeader h = absurd (subst T (sym h) tt)
-is-transaction BatchHeaderB h = absurd (subst T (sym h) tt)
-is-transaction BatchHeaderC h = absurd (subst T (sym h) tt)
-is-transaction FixedDescription h = absurd (subst T (sym h) tt)
-is-transaction OrderingParty h = absurd (subst T (sym h) tt)
-is-transaction Transaction h = refl
-is-transaction NamePayer h = absurd (subst T (sym h) tt)
-is-transaction CityPayer h = absurd (subst T (sym h) tt)
-is-transaction PaymentReference h = absurd (subst T (sym h) tt)
-is-transaction Description h = absurd (subst T (sym h) tt)
-is-transaction NameBeneficiary h = absurd (subst T (sym h) tt)
-is-transaction CityBeneficiary h = absurd (subst T (sym h) tt)
-is-transaction BatchTrailer h = absurd (subst T (sym h) tt)
-is-transaction FileTrailer h = absurd (subst T (sym h) tt)
+is-transaction = every (λ k. isTransaction k ≡ true → k ≡ Transaction) no no no no no (λ h. refl) no no no no no no no no
 
 module _ {b : Bool} (s : State) (k : Kind) (line : List ℕ) (e : b ≡ allowed s k) where
   pub kind-pays : {x : Judged} {t : Bool} → b ≡ true → t ≡ isTransaction k → t ≡ true → x ≡ judgedAs s Transaction line → x ≡ judgedKind s k line

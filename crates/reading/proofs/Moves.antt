@@ -4,19 +4,19 @@ use mathlib.Core.Path.{_≡_, sym, ap, _∙_}
 use mathlib.Core.List.{List}
 use mathlib.Core.Bool.{Bool, false}
 use lib.ListN.{take, drop}
+use Rattle.machine.proofs.Base.{true≢false}
 use Rattle.format.specs.Rules.{needsName}
 use Rattle.format.specs.declared.Kind.{Kind}
 use Rattle.format.specs.declared.Kind.the-variants.{BatchHeaderB, Transaction}
 use Rattle.format.specs.declared.Group.{Group}
 use Rattle.field.specs.Leaf.{digitsOf}
-use Rattle.record.specs.Read.{transactionFor, valuesOf}
+use Rattle.record.specs.Kinds.{isTransaction}
+use Rattle.record.specs.Read.{valuesOf}
 use Rattle.record.specs.Faults.{afterHeader}
 use Rattle.record.specs.declared.Before.{Before}
 use Rattle.record.specs.declared.Batch.{Batch}
 use Rattle.record.specs.declared.TransactionFields.{TransactionFields}
-use Rattle.record.proofs.Reading.{value-small}
-use Rattle.reading.specs.Bounds.{Bounded}
-use Rattle.reading.specs.Step.{onward, openedBatch, nameIf, openedItem, afterText, texted, paid, nextFor}
+use Rattle.reading.specs.Step.{onward, openedBatch, nameIf, openedItem, afterText, texted, nextFor}
 use Rattle.reading.specs.declared.Stage.{Stage}
 use Rattle.reading.specs.declared.Name.{Name}
 use Rattle.reading.specs.declared.OpenItem.{OpenItem}
@@ -41,14 +41,6 @@ item-made t e h = rw (h, e)
 pub next-via : {x : State} {k m : Kind} (s : State) (line : List ℕ) → k ≡ m → x ≡ nextFor s m (valuesOf m line) → x ≡ nextFor s k (valuesOf k line)
 next-via s line e h = h ∙ ap (λ i. nextFor s i (valuesOf i line)) (sym e)
 
-pub paid-via : {x : State} {k : Kind} {t : TransactionFields} (s : State) (line : List ℕ) → k ≡ Transaction → t ≡ transactionFor (valuesOf Transaction line) → x ≡ paid s t → x ≡ nextFor s k (valuesOf k line)
-paid-via s line e f h = next-via s line e (h ∙ ap (λ u. paid s u) f)
-
-pub bounded : {t : TransactionFields} (line : List ℕ) → t ≡ transactionFor (valuesOf Transaction line) → Bounded t
-bounded line e =
-    rw e
-    (record {
-      amount = value-small (take 12 (drop 9 line));
-      payer = value-small (take 10 (drop 21 line));
-      beneficiary = value-small (take 10 (drop 31 line));
-    })
+-- a transaction has a function of its own
+pub no-other : {x : State} {k : Kind} (s : State) (line : List ℕ) → k ≡ Transaction → isTransaction k ≡ false → x ≡ nextFor s k (valuesOf k line)
+no-other s line e h = absurd (true≢false (sym (ap isTransaction e) ∙ h))

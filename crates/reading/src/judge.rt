@@ -1,10 +1,11 @@
 // The judging of lines. Each function that takes the state has one caller, so that the compiler puts them all into the loop of `run`; whoever judges a line calls `lines`.
 ghost use mathlib.Core.Path.{_≡_};
+ghost use mathlib.Core.Bool.{false};
 ghost use Prim.Native.Nat.{_≤_};
 ghost use Rattle.format.specs.Cutting.{rows};
 ghost use Rattle.format.specs.declared.Kind.the-variants.{Transaction};
 ghost use Rattle.reading.specs.State.{Limited, maxLine, isLimited, within};
-ghost use Rattle.reading.specs.Order.{isTransaction};
+ghost use Rattle.record.specs.Kinds.{isTransaction};
 ghost use Rattle.reading.specs.Step.{refused, judgedAs, judgedKind, judgedLine, isWhole, judgedFirst};
 ghost use Rattle.reading.specs.Check.{linesBy, linesOf};
 use crate::Judged;
@@ -16,8 +17,8 @@ use format::Code;
 use format::Kind;
 use record::Batch;
 use record::faults::fault_in;
-use record::faults::maxima_fault;
-use record::faults::transaction_in;
+use record::faults::item::maxima_fault;
+use record::faults::item::transaction_in;
 use record::kinds::code_of;
 
 fn is_transaction(k: Kind) -> bool
@@ -89,9 +90,11 @@ impl State {
         }
     }
 
+    // Any other kind.
     fn judge_as(self, k: Kind, line: &[u8]) -> Judged
         requires line { ⌜ self .line ≤ maxLine ⌝ }
         requires limited { ⌜ Limited self ⌝ }
+        requires other { ⌜ isTransaction k ≡ false ⌝ }
         ensures { λ r. ⌜ r ≡ judgedAs self k (now (line .entry)) ⌝ }
     {
         let before = self.before;

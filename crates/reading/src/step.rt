@@ -1,7 +1,9 @@
 // The state after a record.
 ghost use mathlib.Core.Path.{_≡_};
+ghost use mathlib.Core.Bool.{false};
 ghost use Prim.Native.Nat.{_≤_};
 ghost use Rattle.format.specs.Rules.{maxFixed};
+ghost use Rattle.record.specs.Kinds.{isTransaction};
 ghost use Rattle.record.specs.Read.{valuesOf};
 ghost use Rattle.format.specs.declared.Kind.the-variants.{BatchHeaderB};
 ghost use Rattle.reading.specs.State.{Limited, maxLine};
@@ -17,7 +19,6 @@ use record::Batch;
 use record::Before;
 use record::ClosedBatch;
 use record::TransactionFields;
-use record::read::transaction_at;
 use record::read::value_at;
 use record::types::group_in;
 use record::types::needs_name;
@@ -220,10 +221,11 @@ impl State {
         }
     }
 
-    // The state after a line of that kind.
+    // The state after a line of that kind, which is no transaction: `paid` has the one after that.
     pub(crate) fn after(self, k: Kind, line: &[u8]) -> State
         requires line { ⌜ self .line ≤ maxLine ⌝ }
         requires limited { ⌜ Limited self ⌝ }
+        requires other { ⌜ isTransaction k ≡ false ⌝ }
         ensures { λ r. ⌜ r ≡ nextFor self k (valuesOf k (now (line .entry))) ⌝ }
     {
         let i = self.item;
@@ -233,7 +235,7 @@ impl State {
             Kind::BatchHeaderC => self.opened(line),
             Kind::FixedDescription => self.with_fixed(),
             Kind::OrderingParty => self.moved(Stage::Ordered),
-            Kind::Transaction => self.paid(transaction_at(line)),
+            Kind::Transaction => self,
             Kind::NamePayer => self.named(Name::Read),
             Kind::CityPayer => self.named(Name::Past),
             Kind::PaymentReference => self.texted(true, i.descriptions),

@@ -137,31 +137,3 @@ narrow-layout = every (λ k. narrow (layout k) ≡ true) refl refl refl refl ref
 pub valued : (p : Before) (b : Batch) (k : Kind) (xs : List ℕ) → faultOf p b k xs .number ≡ 0 → valuesOf k xs ≡ fieldsOf k xs
 unfolding faultOf firstFault
 valued p b k xs z = formed 6 (layout k) (testsFor p b k (fieldsOf k xs)) xs (checkRows (maximaFor b k (fieldsOf k xs))) (narrow-layout k) z
-
--- ## For users: the value of a field is small
-
-pow10-some : (n : ℕ) → 1 ≤ pow10 n
-pow10-some zero = omega arith
-pow10-some (suc n) = omega (arith, pow10-some n)
-
-pow10-up : (n m : ℕ) → n ≤ m → pow10 n ≤ pow10 m
-pow10-up zero m h = pow10-some m
-pow10-up (suc n) zero h = absurd (omega arith)
-pow10-up (suc n) (suc m) h = let k : n ≤ m = omega arith in omega (arith, pow10-up n m k)
-
--- at most 18 digits
-pub value-below : (l : List ℕ) → digitsOf l .value < 1000000000000000000
-unfolding digitsOf pick
-value-below l = by (leb (length l) 18) (all isDigit l) refl refl
-  where
-    by : (q u : Bool) → leb (length l) 18 ≡ q → all isDigit l ≡ u → pick (q && u) (record { ok = true; value = valueOf l }) noDigits .value < 1000000000000000000
-    by true true h e =
-        let t : T (all isDigit l) = subst T (sym e) tt in
-        let a : valueOf l < pow10 (length l) = read-field (numeric (length l)) l refl t .0 in
-        let b : pow10 (length l) ≤ 1000000000000000000 = pow10-up (length l) 18 (leb-true (length l) 18 h) in
-        omega (arith, a, b)
-    by true false h e = omega arith
-    by false u h e = omega arith
-
-pub value-small : (l : List ℕ) → digitsOf l .value ≤ 1000000000000000000
-value-small l = omega (arith, value-below l)

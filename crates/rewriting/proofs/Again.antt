@@ -27,7 +27,7 @@ use Rattle.record.specs.Faults.{fieldsOf, faultOf}
 use Rattle.record.specs.Read.{itemOf, recordFor}
 use Rattle.record.specs.declared.Before.{Before}
 use Rattle.record.specs.declared.Batch.{Batch}
-use Rattle.record.proofs.Faulting.{type-known}
+use Rattle.record.proofs.ItemFaults.{type-known}
 use Rattle.reading.specs.State.{startState, isLimited, within}
 use Rattle.reading.specs.Step.{nextFor, refused, taken, isDone, judgedFirst, refusalBy, readBy, endedAt, stepAt}
 use Rattle.reading.specs.Check.{linesBy, linesOf, answerBy, checkOf, restOf}

@@ -1,5 +1,5 @@
 use borrow.Author.Needs.{needs}
-use Rattle.reading.proofs.Moves.{next-via, paid-via, bounded}
+use Rattle.reading.proofs.Moves.{next-via, no-other}
 use Rattle.reading.proofs.State.after.Statement.{statement}
 use Rattle.reading.proofs.State.after.Tie as tie
 
@@ -18,8 +18,6 @@ after-spec =
     (λ c. search needs)
     (λ c κs. search needs)
     (λ c. search needs)
-    (λ c κs. search needs)
-    (λ c κs. search bounded)
     (λ c. search needs)
     (λ c κs. search needs)
     (λ c. search needs)
@@ -42,7 +40,7 @@ after-spec =
     (λ c. search next-via)
     (λ c. search next-via)
     (λ c. search next-via)
-    (λ c. search paid-via)
+    (λ c. search no-other)
     (λ c. search next-via)
     (λ c. search next-via)
     (λ c. search next-via)

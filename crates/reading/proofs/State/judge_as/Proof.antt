@@ -1,5 +1,5 @@
 use borrow.Author.Needs.{needs}
-use Rattle.reading.proofs.Judgements.{as-refused, as-taken}
+use Rattle.reading.proofs.Judgements.{other-fault, as-refused, as-taken}
 use Rattle.reading.proofs.State.judge_as.Statement.{statement}
 use Rattle.reading.proofs.State.judge_as.Tie as tie
 
@@ -9,7 +9,7 @@ judge-as-spec =
     (tie.spec
     (λ c κs. search needs)
     (λ c κs. search needs)
-    (λ c. search as-refused depth 20 fits 10000)
+    (λ c. search (other-fault, as-refused) depth 20 fits 10000)
     (λ c κs. search needs)
-    (λ c. search as-taken depth 20 fits 10000)
+    (λ c. search (other-fault, as-taken) depth 20 fits 10000)
     )

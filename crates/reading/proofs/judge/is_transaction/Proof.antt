@@ -1,5 +1,5 @@
 use borrow.Author.Needs.{needs}
-use Rattle.reading.specs.Order.{isTransaction}
+use Rattle.record.specs.Kinds.{isTransaction}
 use Rattle.record.proofs.Typing.{of-case}
 use Rattle.reading.proofs.judge.is_transaction.Statement.{statement}
 use Rattle.reading.proofs.judge.is_transaction.Tie as tie
