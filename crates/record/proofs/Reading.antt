@@ -1,14 +1,13 @@
 -- The record of an accepted line, and its text. Assumes nothing.
-use Prim.Native.Nat.{ℕ, zero, suc, _+_, _-_, _≤_, _<_}
-use mathlib.Core.Path.{_≡_, refl, sym, ap, _∙_, subst}
+use Prim.Native.Nat.{ℕ, _+_, _-_, _≤_}
+use mathlib.Core.Path.{_≡_, refl, sym, ap, _∙_}
 use mathlib.Core.List.{List, [], _∷_}
 use mathlib.Core.Bool.{Bool, true, false, _&&_}
 use native.Mathlib.Omega.{arith}
 use borrow.Author.Tests.{eq-eqb, eqb-true, leb-true}
 use lib.ListN.{length, take, drop, length-take}
-use lib.Dec.{T, leb, eqb}
-use Rattle.machine.specs.Lists.{pick, all, same, isDigit, placed, putIn}
-use Rattle.machine.specs.Digits.{pow10, valueOf}
+use lib.Dec.{leb, eqb}
+use Rattle.machine.specs.Lists.{pick, same, placed, putIn}
 use Rattle.machine.proofs.Base.{and-first, and-second, true≢false}
 use Rattle.format.specs.Fields.{Field, numeric, filled, optional, free, filler, width, wellFormed, readField}
 use Rattle.format.specs.Records.{layout}
@@ -21,10 +20,9 @@ use Rattle.format.specs.declared.TransactionType.{TransactionType}
 use Rattle.format.specs.declared.TypeRead.{TypeRead}
 use Rattle.format.specs.declared.TypeRead.the-variants.{Of}
 use Rattle.format.proofs.Every.{every}
-use Rattle.format.proofs.Checks.{read-field}
 use Rattle.field.specs.declared.numbers.Digits.{Digits}
 use Rattle.field.specs.Rows.{Row, partAt, firstAnswer, fieldAnswer, rowsAt, checkRows, fieldsAt, firstOr}
-use Rattle.field.specs.Leaf.{noDigits, digitsOf}
+use Rattle.field.specs.Leaf.{digitsOf}
 use Rattle.field.proofs.Numerics.{digits-are}
 use Rattle.record.specs.Faults.{faultAt, noFault, firstFault, fieldsOf, testsFor, maximaFor, faultOf}
 use Rattle.record.specs.Read.{transactionFor, itemOf, recordFor, noText, padded, textPart, textFor, valueIn, valuesAt, valuesOf, headerFor}
