@@ -32,7 +32,7 @@ use Rattle.record.specs.declared.Batch.{Batch}
 use Rattle.record.specs.declared.read.Part.{Part}
 use Rattle.record.specs.declared.TransactionFields.{TransactionFields}
 use Rattle.record.specs.declared.Record.{Record}
-use Rattle.record.specs.declared.Record.the-variants.{BatchHeader, Item}
+use Rattle.record.specs.declared.Record.the-variants as the
 
 -- ## Records from what calls answered
 
@@ -43,13 +43,13 @@ pub transaction-made : {k l : TypeRead} {a p b a′ p′ b′ : ℕ} → k ≡ l
     → _≡_ {A = TransactionFields} (record { kind = k; amount = a; payer = p; beneficiary = b }) (record { kind = l; amount = a′; payer = p′; beneficiary = b′ })
 transaction-made e f g h = rw (e, f, g, h)
 
-pub item-made : {t : TypeRead} {y : TransactionType} (n p b : ℕ) → t ≡ Of y → Item (record { kind = y; amount = n; payer = p; beneficiary = b }) ≡ itemOf t n p b
+pub item-made : {t : TypeRead} {y : TransactionType} (n p b : ℕ) → t ≡ Of y → the.Transaction (record { kind = y; amount = n; payer = p; beneficiary = b }) ≡ itemOf t n p b
 item-made n p b e = rw e
 
 pub item-via : {r : Record} {x : TransactionFields} (line : List ℕ) → x ≡ transactionFor (valuesOf Transaction line) → r ≡ itemOf (x .kind) (x .amount) (x .payer) (x .beneficiary) → r ≡ recordFor Transaction (valuesOf Transaction line)
 item-via line e h = h ∙ ap (λ (x : TransactionFields). itemOf (x .kind) (x .amount) (x .payer) (x .beneficiary)) e
 
-pub header-made : {g : Group} {a s : ℕ} (identified : Bool) (line : List ℕ) → g ≡ groupOf (take 2 (drop 5 line)) → a ≡ digitsOf (take 10 (drop 7 line)) .value → s ≡ digitsOf (take 4 (drop 17 line)) .value → BatchHeader g a s identified ≡ headerFor identified line
+pub header-made : {g : Group} {a s : ℕ} (identified : Bool) (line : List ℕ) → g ≡ groupOf (take 2 (drop 5 line)) → a ≡ digitsOf (take 10 (drop 7 line)) .value → s ≡ digitsOf (take 4 (drop 17 line)) .value → the.BatchHeader g a s identified ≡ headerFor identified line
 header-made true line e f h = rw (e, f, h)
 header-made false line e f h = rw (e, f, h)
 

@@ -46,7 +46,7 @@ transactionOf g own line =
 
 -- a type that is none of the six is in no record
 abbrev pub itemOf : TypeRead → ℕ → ℕ → ℕ → Record
-itemOf (Of y) n p b = the.Item (record { kind = y; amount = n; payer = p; beneficiary = b })
+itemOf (Of y) n p b = the.Transaction (record { kind = y; amount = n; payer = p; beneficiary = b })
 itemOf NoType n p b = the.Nothing
 
 abbrev pub recordFor : (k : Kind) → Fields k → Record

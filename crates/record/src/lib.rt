@@ -133,7 +133,7 @@ pub enum Record {
         desired: u64,
         test: bool,
     },
-    Item(Transaction),
+    Transaction(Transaction),
     NamePayer,
     CityPayer,
     PaymentReference,

@@ -79,7 +79,7 @@ fn item_of(t: TypeRead, amount: u64, payer: u64, beneficiary: u64) -> Record
                 payer,
                 beneficiary,
             };
-            Record::Item(item)
+            Record::Transaction(item)
         }
         TypeRead::NoType => Record::Nothing,
     }

@@ -84,7 +84,7 @@ fn entry_of(read: Record) -> Again {
             desired,
             test,
         }),
-        Record::Item(x) => Again::Of(Entry::Item(x)),
+        Record::Transaction(x) => Again::Of(Entry::Transaction(x)),
         _ => entry_without_numbers(read),
     }
 }

@@ -36,7 +36,7 @@ use Rattle.writer.specs.Encoding.{unfit, numberIn, textIn, blankIn, Give
 use Rattle.writer.specs.Entries.{digitsFor, kindOf, givenFor, lineFor}
 use Rattle.writer.specs.Promises.{entryOf}
 use Rattle.writer.specs.declared.Entry.{Entry}
-use Rattle.writer.specs.declared.Entry.the-variants.{FileHeader, BatchHeader, FixedDescription, OrderingParty, Item, NamePayer, PaymentReference, Description, NameBeneficiary, BatchTrailer, FileTrailer}
+use Rattle.writer.specs.declared.Entry.the-variants.{FileHeader, BatchHeader, FixedDescription, OrderingParty, Transaction, NamePayer, PaymentReference, Description, NameBeneficiary, BatchTrailer, FileTrailer}
 use Rattle.writer.proofs.Building.{exact, digits-in}
 use Rattle.writer.proofs.Accepting.{accepts, accepted-line}
 use Rattle.writer.proofs.Back.{padded-is}
@@ -148,7 +148,7 @@ written-as s t a x h e p = ap (λ b. code (kindOf a) ++ (b ++ lineEnd)) (sym (st
 item-again : (s : State) (x : Fields kinds.Transaction) → Fits (layout kinds.Transaction) x → (e : Entry) (t : TypeRead) → typeOf (type x) ≡ t → entryOf (itemOf t (amount x) (payer x) (beneficiary x)) ≡ some e
     → code kinds.Transaction ++ (writeFields (layout kinds.Transaction) x ++ lineEnd) ≡ lineFor s e noText
 item-again s x f e (Of y) p q =
-    written-as s noText (Item (record { kind = y; amount = amount x; payer = payer x; beneficiary = beneficiary x })) x (
+    written-as s noText (Transaction (record { kind = y; amount = amount x; payer = payer x; beneficiary = beneficiary x })) x (
       type-again (type x) y (f .0 .0) p,
       (
         number-in 12 (amount x) (f .1 .0),

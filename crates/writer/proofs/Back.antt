@@ -37,7 +37,7 @@ use Rattle.writer.specs.Encoding.{unfit, numberIn, textIn, blankIn, Give
 use Rattle.writer.specs.Entries.{digitsFor, kindOf, givenFor, lineFor}
 use Rattle.writer.specs.Promises.{recordOf, isTextFit, isUnfit}
 use Rattle.writer.specs.declared.Entry.{Entry}
-use Rattle.writer.specs.declared.Entry.the-variants.{FileHeader, BatchHeader, FixedDescription, OrderingParty, Item, NamePayer, PaymentReference, Description, NameBeneficiary, BatchTrailer, FileTrailer}
+use Rattle.writer.specs.declared.Entry.the-variants.{FileHeader, BatchHeader, FixedDescription, OrderingParty, Transaction, NamePayer, PaymentReference, Description, NameBeneficiary, BatchTrailer, FileTrailer}
 use Rattle.writer.proofs.Building.{spaces-split, number-long, text-long, digits-beyond, digits-long, blank-long, group-long, type-long, test-long}
 use Rattle.record.proofs.Coding.{one-kind}
 use Rattle.writer.proofs.Accepting.{Accepted, takenAs, accepts, accepted-body}
@@ -157,7 +157,7 @@ sized s t h FixedDescription = (((omega arith, omega arith), omega arith), ((ome
 sized s t h (OrderingParty n d b) =
     let l = test-long b in
     ((omega arith, omega arith), ((omega arith, omega arith), (((omega arith, omega arith), omega arith), (((omega arith, omega arith), omega (arith, l)), ((omega arith, omega arith), tt)))))
-sized s t h (Item x) =
+sized s t h (Transaction x) =
     let l = type-long (x .kind) in
     (((omega arith, omega arith), omega (arith, l)), ((omega arith, omega arith), ((omega arith, omega arith), ((omega arith, omega arith), ((omega arith, omega arith), tt)))))
 sized s t h NamePayer = (((omega arith, omega arith), omega arith), ((omega arith, omega arith), tt))
@@ -209,7 +209,7 @@ record-back s t (BatchHeader g a q true) f = ap (λ y. read.BatchHeader y a q tr
 record-back s t (BatchHeader g a q false) f = ap (λ y. read.BatchHeader y a q false) (group-of g)
 record-back s t FixedDescription f = refl
 record-back s t (OrderingParty n d b) f = ap (λ y. read.OrderingParty n d y) (test-of b)
-record-back s t (Item x) f = ap (λ y. itemOf y (x .amount) (x .payer) (x .beneficiary)) (type-of (x .kind))
+record-back s t (Transaction x) f = ap (λ y. itemOf y (x .amount) (x .payer) (x .beneficiary)) (type-of (x .kind))
 record-back s t NamePayer f = refl
 record-back s t PaymentReference f = refl
 record-back s t Description f = refl
@@ -241,7 +241,7 @@ text-back-is s t (BatchHeader g a q true) h b = text-all 16 t h (omega arith) (b
 text-back-is s t (BatchHeader g a q false) h b = text-none t h (b .1 .1 .1 .1 .0)
 text-back-is s t FixedDescription h b = text-all 32 t h (omega arith) (b .0)
 text-back-is s t (OrderingParty n d o) h b = text-all 35 t h (omega arith) (b .1 .1 .0)
-text-back-is s t (Item x) h b = text-none t h (b .1 .1 .1 .1 .0)
+text-back-is s t (Transaction x) h b = text-none t h (b .1 .1 .1 .1 .0)
 text-back-is s t NamePayer h b = text-all 35 t h (omega arith) (b .0)
 text-back-is s t PaymentReference h b = text-all 16 t h (omega arith) (b .0)
 text-back-is s t Description h b = text-all 32 t h (omega arith) (b .0)

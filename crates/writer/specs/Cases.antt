@@ -20,7 +20,7 @@ use Rattle.writer.specs.Encoding.{lineEnd}
 use Rattle.writer.specs.Entries.{lineFor}
 use Rattle.writer.specs.Writing.{writtenOf}
 use Rattle.writer.specs.declared.Entry.{Entry}
-use Rattle.writer.specs.declared.Entry.the-variants.{FileHeader, BatchHeader, Item, PaymentReference, NameBeneficiary, BatchTrailer, FileTrailer}
+use Rattle.writer.specs.declared.Entry.the-variants.{FileHeader, BatchHeader, Transaction, PaymentReference, NameBeneficiary, BatchTrailer, FileTrailer}
 use Rattle.writer.specs.declared.Written.{Written}
 
 -- a text of so many letters
@@ -39,7 +39,7 @@ batchAt line p name =
     }
 
 abbrev pub salaryOf : ℕ → Entry
-salaryOf amount = Item (record { kind = Salary; amount = amount; payer = 123456789; beneficiary = 1234 })
+salaryOf amount = Transaction (record { kind = Salary; amount = amount; payer = 123456789; beneficiary = 1234 })
 
 -- with so much room
 abbrev pub Answers : State → Entry → List ℕ → ℕ → Answer → Type 0
@@ -57,7 +57,7 @@ orderedOf account =
     }
 
 abbrev pub afterCent : ℕ → ℕ → Written
-afterCent payer beneficiary = writtenOf (orderedOf payer) (Item (record { kind = Salary; amount = 1; payer = payer; beneficiary = beneficiary })) (letters 0) 52
+afterCent payer beneficiary = writtenOf (orderedOf payer) (Transaction (record { kind = Salary; amount = 1; payer = payer; beneficiary = beneficiary })) (letters 0) 52
 
 -- the two accounts of a batch's one item, their sum, and the ten digits of it with which the trailer is written, and accepted
 pub record SumWritten (payer beneficiary sum : ℕ) (digits : List ℕ) : Type 0 where

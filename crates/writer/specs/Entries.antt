@@ -14,7 +14,8 @@ use Rattle.record.specs.declared.Transaction.{Transaction}
 use Rattle.reading.specs.declared.State.{State}
 use Rattle.writer.specs.Encoding.{Givens, encodedLine, testText}
 use Rattle.writer.specs.declared.Entry.{Entry}
-use Rattle.writer.specs.declared.Entry.the-variants.{FileHeader, BatchHeader, FixedDescription, OrderingParty, Item, NamePayer, PaymentReference, Description, NameBeneficiary, BatchTrailer, FileTrailer}
+use Rattle.writer.specs.declared.Entry.the-variants.{FileHeader, BatchHeader, FixedDescription, OrderingParty, NamePayer, PaymentReference, Description, NameBeneficiary, BatchTrailer, FileTrailer}
+use Rattle.writer.specs.declared.Entry.the-variants as entry
 
 abbrev pub kindOf : Entry → Kind
 kindOf (FileHeader d i c) = kinds.FileHeader
@@ -22,7 +23,7 @@ kindOf (BatchHeader g a q true) = kinds.BatchHeaderC
 kindOf (BatchHeader g a q false) = kinds.BatchHeaderB
 kindOf FixedDescription = kinds.FixedDescription
 kindOf (OrderingParty n d b) = kinds.OrderingParty
-kindOf (Item x) = kinds.Transaction
+kindOf (entry.Transaction x) = kinds.Transaction
 kindOf NamePayer = kinds.NamePayer
 kindOf PaymentReference = kinds.PaymentReference
 kindOf Description = kinds.Description
@@ -58,7 +59,7 @@ givenFor s t (BatchHeader g a q true) = batchHeaderGiven g a q t
 givenFor s t (BatchHeader g a q false) = batchHeaderGiven g a q t
 givenFor s t FixedDescription = (t, ([], tt))
 givenFor s t (OrderingParty n d b) = orderingPartyGiven n d b t
-givenFor s t (Item x) = itemGiven x t
+givenFor s t (entry.Transaction x) = itemGiven x t
 givenFor s t NamePayer = (t, ([], tt))
 givenFor s t PaymentReference = (t, ([], tt))
 givenFor s t Description = (t, ([], tt))

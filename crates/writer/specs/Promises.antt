@@ -20,7 +20,7 @@ use Rattle.writer.specs.Encoding.{Given, Givens}
 use Rattle.writer.specs.Entries.{kindOf, givenFor}
 use Rattle.writer.specs.Writing.{answered}
 use Rattle.writer.specs.declared.Entry.{Entry}
-use Rattle.writer.specs.declared.Entry.the-variants.{FileHeader, BatchHeader, FixedDescription, OrderingParty, Item, NamePayer, PaymentReference, Description, NameBeneficiary, BatchTrailer, FileTrailer}
+use Rattle.writer.specs.declared.Entry.the-variants.{FileHeader, BatchHeader, FixedDescription, OrderingParty, Transaction, NamePayer, PaymentReference, Description, NameBeneficiary, BatchTrailer, FileTrailer}
 use Rattle.writer.specs.declared.Written.{Written}
 
 -- the record that is read of a record written: a batch trailer's numbers are the state's
@@ -29,7 +29,7 @@ recordOf s (FileHeader d i c) = read.FileHeader d i c
 recordOf s (BatchHeader g a q b) = read.BatchHeader g a q b
 recordOf s FixedDescription = read.FixedDescription
 recordOf s (OrderingParty n d b) = read.OrderingParty n d b
-recordOf s (Item x) = read.Item x
+recordOf s (Transaction x) = read.Transaction x
 recordOf s NamePayer = read.NamePayer
 recordOf s PaymentReference = read.PaymentReference
 recordOf s Description = read.Description
@@ -44,7 +44,7 @@ entryOf (read.FileHeader d i c) = some (FileHeader d i c)
 entryOf (read.BatchHeader g a q b) = some (BatchHeader g a q b)
 entryOf read.FixedDescription = some FixedDescription
 entryOf (read.OrderingParty n d b) = some (OrderingParty n d b)
-entryOf (read.Item x) = some (Item x)
+entryOf (read.Transaction x) = some (Transaction x)
 entryOf read.NamePayer = some NamePayer
 entryOf read.CityPayer = none
 entryOf read.PaymentReference = some PaymentReference

@@ -33,7 +33,7 @@ pub enum Entry {
         desired: u64,
         test: bool,
     },
-    Item(Transaction),
+    Transaction(Transaction),
     NamePayer,
     PaymentReference,
     Description,

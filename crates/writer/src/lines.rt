@@ -137,7 +137,7 @@ pub(crate) fn entry_line(state: State, entry: Entry, text: [u8; 35]) -> [u8; 52]
             desired,
             test,
         } => ordering_party(code, desired, test, text),
-        Entry::Item(t) => item(t, text),
+        Entry::Transaction(t) => item(t, text),
         Entry::NamePayer => text_line(Kind::NamePayer, 35, text),
         Entry::PaymentReference => text_line(Kind::PaymentReference, 16, text),
         Entry::Description => text_line(Kind::Description, 32, text),
