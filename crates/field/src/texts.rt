@@ -60,7 +60,8 @@ pub fn free_answer(line: &[u8], at: usize, width: usize) -> u8
 
 // A text that has to be this one.
 pub fn exactly_answer(line: &[u8], at: usize, width: usize, text: &[u8]) -> u8
-    ensures { λ r. ⌜ r ≡ fieldAnswer (filled width) (textTests (now (text .entry)) (take width (drop at (now (line .entry)))))
+    ensures { λ r. ⌜ r ≡ fieldAnswer (filled width)
+        (textTests (now (text .entry)) (take width (drop at (now (line .entry)))))
         (take width (drop at (now (line .entry)))) ⌝ }
 {
     let f = filled_answer(line, at, width);

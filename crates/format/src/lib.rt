@@ -1,4 +1,5 @@
-// The names of document 01 that code and definitions share: the kinds of record, the groups, the transaction types, the answers and limits.
+// The names of document 01 that code and definitions share: the kinds of record, the groups, the transaction types, the
+// answers and limits.
 ghost use mathlib.Core.Path.{_≡_};
 ghost use Rattle.format.specs.Answers.{refusal, acceptance};
 ghost use Rattle.format.specs.Rules.{mostDescriptions};

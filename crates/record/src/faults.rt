@@ -4,7 +4,6 @@ ghost use mathlib.Core.List.{[], _∷_};
 ghost use Rattle.format.specs.Records.{layout};
 ghost use Rattle.format.specs.Tests.{untested};
 ghost use Rattle.format.specs.declared.Kind.the-variants.{CityPayer};
-ghost use Rattle.format.specs.declared.Kind.the-variants as kinds;
 ghost use Rattle.field.specs.Rows.{row};
 ghost use Rattle.record.specs.Faults.{faultAt, firstFault, fieldsFault, textFault, otherFault};
 use crate::Batch;
@@ -56,8 +55,8 @@ fn city(line: &[u8]) -> Fault
     last(free_answer(line, 5, 45), 6)
 }
 
-// The first fault of a line of that kind, in a batch so far. A transaction has none here: `item::transaction_in` reads its fields with
-// their faults.
+// The first fault of a line of that kind, in a batch so far. A transaction has none here: its fields are read with their
+// faults, by `item::transaction_in`.
 pub fn fault_in(kind: Kind, line: &[u8], before: Before, batch: Batch) -> Fault
     ensures { λ r. ⌜ r ≡ otherFault before batch kind (now (line .entry)) ⌝ }
 {

@@ -8,7 +8,8 @@ ghost use Rattle.format.specs.Records.{layout, code};
 ghost use Rattle.format.specs.declared.Kind.the-variants.{FileHeader, OrderingParty, BatchTrailer, FileTrailer};
 ghost use Rattle.format.specs.declared.Kind.the-variants as kinds;
 ghost use Rattle.writer.specs.Encoding.{lineEnd, encodedLine};
-ghost use Rattle.writer.specs.Entries.{fileHeaderGiven, orderingPartyGiven, itemGiven, batchTrailerGiven, lineFor};
+ghost use Rattle.writer.specs.Entries.{fileHeaderGiven, orderingPartyGiven, itemGiven, batchTrailerGiven};
+ghost use Rattle.writer.specs.Entries.{lineFor};
 ghost use Rattle.writer.specs.Inner.{headerStart, batchHeaderLine};
 use crate::Entry;
 use crate::fields::put_blank;
@@ -36,7 +37,8 @@ fn coded(kind: Kind) -> [u8; 52]
 }
 
 fn file_header(created: u64, identification: u64, duplicate: u64, text: [u8; 35]) -> [u8; 52]
-    ensures { λ r. ⌜ r ≡ encodedLine (code FileHeader) (layout FileHeader) (fileHeaderGiven created identification duplicate text) ⌝ }
+    ensures { λ r. ⌜ r ≡ encodedLine (code FileHeader) (layout FileHeader)
+        (fileHeaderGiven created identification duplicate text) ⌝ }
 {
     let a = put_number(coded(Kind::FileHeader), 5, 6, created);
     let b = put_bytes(a, 11, &codes::FILE_NAME);
@@ -73,7 +75,8 @@ fn batch_header(
 }
 
 fn ordering_party(name_code: u64, desired: u64, test: bool, text: [u8; 35]) -> [u8; 52]
-    ensures { λ r. ⌜ r ≡ encodedLine (code OrderingParty) (layout OrderingParty) (orderingPartyGiven «name_code» desired test text) ⌝ }
+    ensures { λ r. ⌜ r ≡ encodedLine (code OrderingParty) (layout OrderingParty)
+        (orderingPartyGiven «name_code» desired test text) ⌝ }
 {
     let a = put_number(coded(Kind::OrderingParty), 5, 1, name_code);
     let b = put_number(a, 6, 6, desired);
@@ -101,7 +104,8 @@ fn text_line(kind: Kind, width: usize, text: [u8; 35]) -> [u8; 52]
 }
 
 fn batch_trailer(total: u64, accounts: u64, items: u64, text: [u8; 35]) -> [u8; 52]
-    ensures { λ r. ⌜ r ≡ encodedLine (code BatchTrailer) (layout BatchTrailer) (batchTrailerGiven total accounts items text) ⌝ }
+    ensures { λ r. ⌜ r ≡ encodedLine (code BatchTrailer) (layout BatchTrailer)
+        (batchTrailerGiven total accounts items text) ⌝ }
 {
     let a = put_number(coded(Kind::BatchTrailer), 5, 18, total);
     let b = put_number(a, 23, 10, accounts);

@@ -4,7 +4,6 @@ ghost use Rattle.format.specs.Fields.{filled};
 ghost use Rattle.format.specs.Tests.{orderingPartyTests, batchTrailerTests};
 ghost use Rattle.format.specs.Tests.{sequenceTests, nameCodeTests, testCodeTests};
 ghost use Rattle.format.specs.declared.Kind.the-variants.{OrderingParty, BatchTrailer};
-ghost use Rattle.format.specs.declared.Kind.the-variants as kinds;
 ghost use Rattle.field.specs.Rows.{partAt, answerAt};
 ghost use Rattle.field.specs.Leaf.{numericAnswer};
 ghost use Rattle.record.specs.Faults.{fieldsFault};

@@ -5,7 +5,6 @@ ghost use Rattle.format.specs.Records.{layout};
 ghost use Rattle.format.specs.Tests.{untested, fileHeaderTests};
 ghost use Rattle.format.specs.Tests.{identificationTests};
 ghost use Rattle.format.specs.declared.Kind.the-variants.{FileHeader, FileTrailer};
-ghost use Rattle.format.specs.declared.Kind.the-variants as kinds;
 ghost use Rattle.field.specs.Rows.{answerAt};
 ghost use Rattle.record.specs.Faults.{fieldsFault};
 use crate::Fault;

@@ -2,7 +2,6 @@
 ghost use mathlib.Core.Path.{_≡_};
 ghost use Rattle.format.specs.Rules.{sameGroup};
 ghost use Rattle.format.specs.Tests.{amountTests, partyTests};
-ghost use Rattle.format.specs.declared.Kind.the-variants as kinds;
 ghost use Rattle.format.specs.declared.Group.the-variants.{Payments, Debits};
 ghost use Rattle.field.specs.Rows.{partAt};
 ghost use Rattle.field.specs.Leaf.{numericOf};
