@@ -47,7 +47,7 @@ pub fn check(fd: i32, name: &[u8], buffer: &mut [u8]) -> Checked
     let mut checked = answered(State::start(), lines, buffer);
     let mut turns = u64::MAX;
     while 0 < turns {
-        lines = lines.pulled(fd, name, buffer);
+        lines = lines.next(fd, name, buffer);
         checked = checked.next(lines, buffer);
         if checked.answer.number != 0 {
             return checked;
@@ -55,7 +55,6 @@ pub fn check(fd: i32, name: &[u8], buffer: &mut [u8]) -> Checked
         if lines.end <= lines.at {
             return checked;
         }
-        lines = lines.passed(52);
         turns -= 1;
     }
     checked

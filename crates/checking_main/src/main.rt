@@ -74,19 +74,18 @@ fn length_of(m: Extent) -> u64 {
     m.length
 }
 
-// A line measured up to its end, however far that is.
+// The line that stands next, measured up to its end, however far that is.
 fn measured_on(start: Lines, fd: i32, name: &[u8], buffer: &mut [u8]) -> Extent {
     let mut lines = start;
     let mut m = unmeasured();
     let mut turns = u64::MAX;
     while 0 < turns {
-        lines = lines.pulled(fd, name, buffer);
         m = measured(m, lines.line(buffer));
         if m.ended | (lines.end <= lines.at) {
             m.failed = lines.failed;
             return m;
         }
-        lines = lines.passed(52);
+        lines = lines.next(fd, name, buffer);
         turns -= 1;
     }
     m
@@ -232,7 +231,7 @@ fn is_said(answer: Answer, line: LineShown, m: Extent, name: &[u8]) -> bool {
 }
 
 fn check_file(fd: i32, name: &[u8]) -> u8 {
-    let mut buffer = [0u8; 65520];
+    let mut buffer = [0u8; streams::BUFFER];
     let checked = checking::check(fd, name, &mut buffer);
     let answer = checked.answer;
     let lines = checked.lines;

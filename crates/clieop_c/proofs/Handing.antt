@@ -14,7 +14,7 @@ use Rattle.machine.specs.Lists.{pick, same, placed, putIn}
 use Rattle.machine.specs.Digits.{digitsOnto, decimal, valueAfter}
 use Rattle.format.specs.Answers.{refusal}
 use Rattle.format.specs.declared.Answer.{Answer}
-use Rattle.format.specs.Cutting.{rows}
+use Rattle.format.specs.Cutting.{linesIn}
 use Rattle.format.specs.Rules.{typeOf}
 use Rattle.format.specs.declared.TransactionType.{TransactionType}
 use Rattle.format.specs.declared.TransactionType.the-variants.{UncheckedCreditor, UncheckedSalary, Creditor, Salary, Debit, UncheckedDebit}
@@ -23,7 +23,7 @@ use Rattle.format.specs.declared.TypeRead.the-variants.{Of, NoType}
 use Rattle.field.proofs.Putting.{put-fits, length-placed, placed-both}
 use Rattle.reading.specs.Check.{checkOf}
 use Rattle.record.proofs.Typing.{of-case}
-use Rattle.items.specs.Search.{noFields, started, afterRows}
+use Rattle.items.specs.Search.{noFields, started, afterLines}
 use Rattle.items.specs.Answering.{answered, isFound, answeredBy, roomBy, itemOf, roomAfter}
 use Rattle.items.specs.Promises.{Promised, ItemAt, handedOut, roomWith, textsFor, itemAt}
 use Rattle.items.specs.declared.ItemFields.{ItemFields}
@@ -133,7 +133,7 @@ shape-by a f false q w e h = refusing (a .number) (a .column) (eqb-false (a .num
 shape : (file : List ℕ) (batch item room : ℕ) → Shape (checkOf file .line) (itemOf file batch item room)
 unfolding itemOf answeredBy
 shape file batch item room =
-    let f = afterRows (started batch item) (rows file) .found .fields in
+    let f = afterLines (started batch item) (linesIn file) .found .fields in
     shape-by (checkOf file) f (eqb (checkOf file .number) 0) (isFound (f .kind)) (leb 128 room) refl refl
 
 line-shape : {line : ℕ} {r : ItemRead} → Shape line r → r .answer .line ≡ line
@@ -190,7 +190,7 @@ lacking a q false e w = eqb-false (a .number) 0 e w
 
 lacking-refused : (file : List ℕ) (batch item : ℕ) → itemOf file batch item 0 .answer .number ≡ 0 → ⊥
 unfolding itemOf answeredBy pick
-lacking-refused file batch item = lacking (checkOf file) (isFound (afterRows (started batch item) (rows file) .found .fields .kind)) (eqb (checkOf file .number) 0) refl
+lacking-refused file batch item = lacking (checkOf file) (isFound (afterLines (started batch item) (linesIn file) .found .fields .kind)) (eqb (checkOf file .number) 0) refl
 
 module _ {r : ItemRead} (file : List ℕ) (batch item places : ℕ) (e : r ≡ itemOf file batch item 0) where
   lacking-answer : r .answer .number ≡ 0 → ⊥
@@ -247,7 +247,7 @@ kept-by false q w x y i j k l z h = refl
 refused-kept : (file : List ℕ) (batch item : ℕ) (out : List ℕ) → (itemOf file batch item (length out) .answer .number ≡ 0 → ⊥) → roomAfter file batch item out ≡ out
 unfolding itemOf answeredBy roomAfter roomBy
 refused-kept file batch item out h =
-    kept-by (eqb (checkOf file .number) 0) (isFound (afterRows (started batch item) (rows file) .found .fields .kind)) (leb 128 (length out)) _ out _ _ _ _ (λ e. eqb-true (checkOf file .number) 0 e) h
+    kept-by (eqb (checkOf file .number) 0) (isFound (afterLines (started batch item) (linesIn file) .found .fields .kind)) (leb 128 (length out)) _ out _ _ _ _ (λ e. eqb-true (checkOf file .number) 0 e) h
 
 pub numbers-kept : (r : ItemRead) (numbers : List ℕ) → (r .answer .number ≡ 0 → ⊥) → numbers ≡ itemNumbers r numbers
 unfolding itemNumbers pick

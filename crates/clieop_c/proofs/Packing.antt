@@ -12,7 +12,7 @@ use Rattle.format.specs.Answers.{refusal, acceptance}
 use Rattle.format.specs.declared.Answer.{Answer}
 use Rattle.reading.specs.State.{startState, within}
 use Rattle.reading.specs.Step.{isDone, refusalBy, endedAt}
-use Rattle.reading.specs.Check.{linesOf, checkOf, restOf}
+use Rattle.reading.specs.Check.{judgedLines, checkOf, restOf}
 use Rattle.reading.specs.declared.State.{State}
 use Rattle.reading.specs.declared.Judged.{Judged}
 use Rattle.reading.proofs.Limits.{within-line}
@@ -51,14 +51,14 @@ ended-line s true true e = omega (arith, within-line s e)
 ended-line s true false e = omega (arith, within-line s e)
 ended-line s false d e = omega arith
 
-judged-line : (file : List ℕ) (j : Judged) (q : Bool) → j ≡ linesOf startState file → eqb (j .number) 0 ≡ q → pick q (endedAt (j .next)) (refusalBy j) .line ≤ 6999369996
+judged-line : (file : List ℕ) (j : Judged) (q : Bool) → j ≡ judgedLines startState file → eqb (j .number) 0 ≡ q → pick q (endedAt (j .next)) (refusalBy j) .line ≤ 6999369996
 unfolding pick endedAt
 judged-line file j true e h = ended-line (j .next) (within (j .next)) (isDone (j .next)) refl
 judged-line file j false e h = rest-named startState file e (eqb-false (j .number) 0 h)
 
 pub check-line : (file : List ℕ) → checkOf file .line ≤ 6999369996
 unfolding checkOf restOf
-check-line file = judged-line file (linesOf startState file) (eqb (linesOf startState file .number) 0) refl refl
+check-line file = judged-line file (judgedLines startState file) (eqb (judgedLines startState file .number) 0) refl refl
 
 -- ## The answer of a file
 

@@ -11,7 +11,9 @@ use lib.ListN.{length, getD, take, drop, drop-of-length-le, length-drop}
 use lib.Seq.{drop-cons, take-all}
 use lib.Dec.{eqb}
 use Rattle.machine.specs.Lists.{all, same}
+use Rattle.format.specs.Cutting.{cutOf, nextLine}
 use Rattle.format.specs.Fields.{leftJustified}
+use Rattle.format.specs.declared.Cut.{Cut}
 
 -- ## A test at every byte
 
@@ -79,6 +81,17 @@ pub part-out : (s : List ℕ) (a w : ℕ) → length s < a → _≡_ {A = List �
 part-out s a w h = let k : length s ≤ a = omega arith in rw (drop-of-length-le s k) (sym (take-all w [] (omega arith)))
 
 pub ruleset parts = (part-in, part-end, part-out)
+
+-- ## The next line
+
+module _ (s : List ℕ) (a : ℕ) where
+  pub next-none : length s ≤ a → _≡_ {A = List ℕ} [] (nextLine (drop a s))
+  next-none h = rw (drop-of-length-le s h) (sym (take-all (cutOf [] .bytes) [] (omega arith)))
+
+  pub next-by : {k : Cut} {p : List ℕ} → k ≡ cutOf (take (length s - a) (drop a s)) → p ≡ take (k .bytes) (drop 0 (take (length s - a) (drop a s))) → p ≡ nextLine (drop a s)
+  next-by e h = h ∙ rw (e, take-all (length s - a) (drop a s) (rw length-drop (omega arith)))
+
+pub ruleset nexts = (next-none, next-by)
 
 -- ## The first byte
 

@@ -3,6 +3,7 @@ ghost use mathlib.Core.Path.{_≡_};
 ghost use Prim.Native.Nat.{_+_, _≤_};
 ghost use lib.ListN.{length, take, drop};
 ghost use Rattle.machine.specs.Lists.{all, same, placed, putIn, isDigit, isSpace};
+ghost use Rattle.format.specs.Cutting.{nextLine};
 ghost use Rattle.format.specs.Fields.{printable, leftJustified};
 
 // The part from at, of that width or as much as there is.
@@ -18,6 +19,18 @@ pub fn part(s: &[u8], at: usize, width: usize) -> &[u8]
     } else {
         &s[..0]
     }
+}
+
+// The next line from at, or as many bytes of it as there are.
+pub fn next_line(bytes: &[u8], at: usize) -> &[u8]
+    ensures { λ r. ⌜ now r ≡ nextLine (drop at (now (bytes .entry))) ⌝ }
+{
+    if bytes.len() <= at {
+        return &bytes[..0];
+    }
+    let rest = &bytes[at..];
+    let cut = format::cut_of(rest);
+    part(rest, 0, cut.bytes)
 }
 
 fn is_text(b: u8) -> bool

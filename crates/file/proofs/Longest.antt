@@ -1,52 +1,34 @@
 -- 01's limit of lines is exact: a file with 9,999 batches of 100,000 items of seven lines is accepted. It is counted by lemmas, never computed. Assumes nothing.
 use Prim.Native.Nat.{ℕ, zero, suc, _+_, _*_, _≤_}
-use mathlib.Core.Path.{_≡_, refl, sym, ap, _∙_, subst}
+use mathlib.Core.Path.{_≡_, refl, ap, subst}
 use mathlib.Core.List.{List, [], _∷_}
-use mathlib.Core.Bool.{Bool, true, false}
 use mathlib.Core.Option.{none, some}
 use native.Mathlib.Omega.{arith}
-use lib.ListN.{length, take, drop, replicate, length-replicate, length-append, length-drop}
+use lib.ListN.{length, replicate, length-replicate}
 use Rattle.machine.specs.Lists.{pick, same}
 use Rattle.machine.specs.Digits.{valueAfter}
-use Rattle.machine.specs.Lines.{Exactly, no-lines, one-more}
 use Rattle.format.specs.Rules.{isTestCode, daysIn, isDate, isDesiredDate, isIdentification, isOfDay, weighted, isEleven, isOrderingAccount, isAccount, isOwnIf, isNameCodeIn, typeOf, typeText}
-use Rattle.format.specs.Language.{Item, Batch, File, totalOf, accountsOf, tenDigits, Rec, itemsRecs, batchTrailerRec, batchesRecs, fileTrailerRecs, fileRecs, ItemOk, ItemsOk, Follows, BatchOk, BatchesOk, Valid, crlf, endBytes, lineOf, linesOf, Reads}
-use Rattle.format.specs.Cutting.{Fixed, unfixed, cut, turn}
+use Rattle.format.specs.Language.{Item, Batch, File, totalOf, accountsOf, tenDigits, Rec, itemsRecs, batchTrailerRec, batchesRecs, fileTrailerRecs, fileRecs, ItemOk, ItemsOk, Follows, BatchOk, BatchesOk, Valid, Ending, crlf, endBytes, lineOf, linesOf, Reads}
+use Rattle.format.specs.Cutting.{linesFrom, linesIn}
 use Rattle.format.specs.Answers.{acceptance}
 use Rattle.format.specs.declared.Group.the-variants.{Payments}
 use Rattle.format.specs.declared.TransactionType.the-variants.{UncheckedSalary}
 use Rattle.format.proofs.Reader.{State, Path, end, go}
-use Rattle.format.proofs.Link.{line-length}
+use Rattle.format.proofs.Cutting.{lines-line, count-lines}
+use Rattle.format.proofs.Link.{is-line}
 use Rattle.format.proofs.Complete.{complete}
 use Rattle.reading.specs.State.{maxLine}
-use Rattle.reading.specs.Step.{isWhole}
 use Rattle.reading.specs.Check.{checkOf}
-use Rattle.reading.proofs.Running.{whole-long}
 use Rattle.file.specs.Longest.{Longest}
-use Rattle.file.proofs.Run.{cutIf, cut-whole}
 use Rattle.file.proofs.Meaning.{language, lines-read, none-longer}
 
--- ## 52 bytes a line
+-- ## A line a record
 
-cut-bytes : (b c r : List ℕ) → cut unfixed b ≡ some (c, r) → length b ≡ 52 + length r
-cut-bytes b c r h = by (isWhole b) refl (sym (cut-whole b) ∙ h)
-  where
-    by : (q : Bool) → isWhole b ≡ q → cutIf q b ≡ some (c, r) → length b ≡ 52 + length r
-    by true w e =
-        let p : _≡_ {A = List ℕ × List ℕ} (take 52 b, drop 52 b) (c, r) = cc in
-        let d : drop 52 b ≡ r = ap (λ (u : List ℕ × List ℕ). u .1) p in
-        let l = whole-long b w in
-        omega (arith, simp length-drop at (ap length d))
-    by false w e = absurd (let z : _≡_ {A = ℕ} 0 1 = cc in omega arith)
-
-lines-bytes : {e : Fixed} {n : ℕ} {b : List ℕ} → Exactly cut turn e n b → length b ≡ 52 * n
-lines-bytes no-lines = refl
-lines-bytes (one-more {b = b} c r h x) = omega (arith, cut-bytes b c r h, lines-bytes x)
-
-path-bytes : {s : State} {rs : List Rec} → Path s rs → length (linesOf (endBytes crlf) rs) ≡ 52 * length rs
-unfolding linesOf
-path-bytes end = refl
-path-bytes (go {s = s} {rs} k x pl o q) = omega (arith, length-append (lineOf (endBytes crlf) (k, x)) (linesOf (endBytes crlf) rs), line-length pl s x o (endBytes crlf), path-bytes q)
+path-lines : {s : State} {rs : List Rec} → Path s rs → (z : Ending) → length (linesIn (linesOf (endBytes z) rs)) ≡ length rs
+unfolding linesOf linesFrom
+path-lines end z = refl
+path-lines (go {s = s} {rs} k x pl o q) z =
+    omega (arith, ap length (lines-line z (lineOf (endBytes z) (k, x)) (linesOf (endBytes z) rs) (is-line pl s x o (endBytes z))), path-lines q z)
 
 -- ## The file
 
@@ -191,8 +173,8 @@ module _ (n : ℕ) (full : n ≡ 100000) where
     as-long : (b : List ℕ) × (checkOf b ≡ acceptance 6999369995)
     unfolding its-bytes
     as-long =
-        let l = path-bytes (complete file valid) in
-        let m = lines-bytes (lines-read its-bytes (taken .0) (taken .1)) in
+        let l = path-lines (complete file valid) crlf in
+        let m = count-lines (lines-read its-bytes (taken .0) (taken .1)) in
         let e : taken .0 ≡ 6999369995 = omega (arith, records) in
         (its-bytes, subst (λ j. checkOf its-bytes ≡ acceptance j) e (taken .1))
 

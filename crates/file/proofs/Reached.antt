@@ -8,10 +8,11 @@ use native.Mathlib.Omega.{arith}
 use lib.ListN.{take}
 use Rattle.machine.specs.Lists.{pick}
 use Rattle.format.specs.Answers.{beyondLimits, refusal, acceptance}
+use Rattle.format.specs.Cutting.{cutOf}
 use Rattle.format.specs.declared.Code.{Code}
 use Rattle.format.specs.declared.Code.the-variants.{Of, Unknown}
 use Rattle.reading.specs.State.{within}
-use Rattle.reading.specs.Step.{refused, judgedLine, isWhole, isDone, judgedFirst, readBy, endedAt, stepAt}
+use Rattle.reading.specs.Step.{refused, judgedLine, isDone, judgedFirst, readBy, endedAt, stepAt}
 use Rattle.reading.specs.declared.State.{State}
 use Rattle.reading.specs.declared.Judged.{Judged}
 use Rattle.file.specs.Reached.{Reached, at-start, one-step}
@@ -34,7 +35,7 @@ small-line (stops column number h e) = omega arith
 
 small-first : (s : State) (xs : List ℕ) → within s ≡ true → judgedFirst s xs .number ≤ 11
 unfolding judgedFirst pick
-small-first s xs w = rw w (by (isDone s) (isWhole xs))
+small-first s xs w = rw w (by (isDone s) (cutOf xs .whole))
   where
     by : (p q : Bool) → pick p (refused s 0 11) (pick q (judgedLine s (take 50 xs)) (refused s 0 1)) .number ≤ 11
     by true q = omega arith

@@ -10,4 +10,3 @@ pub mod Complete
 pub mod Live
 pub mod One
 pub mod Theorem
-pub mod ByRows

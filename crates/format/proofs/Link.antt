@@ -9,16 +9,15 @@ use lib.ListN.{length, take, drop, take-append-drop, length-drop, length-append}
 use lib.Seq.{take-at, drop-at, length-take-le, drop-drop}
 use lib.Dec.{T}
 use Rattle.machine.specs.Lists.{same}
-use Rattle.machine.proofs.Base.{next, next≢refuse, same→eq, same-refl}
-use Rattle.machine.proofs.Cutters.{block-of, again}
+use Rattle.machine.proofs.Base.{next, next≢refuse, same→eq}
 use Rattle.format.specs.Fields.{writeFields, readFields, widths}
 use Rattle.format.specs.Records.{layout, code, Fields}
 use Rattle.format.specs.Language.{Rec, lineOf}
 use Rattle.format.specs.Answers.{unknownRecord, misplacedRecord}
-use Rattle.format.specs.Cutting.{ends, lineCut}
 use Rattle.format.specs.declared.Kind.{Kind}
 use Rattle.format.specs.declared.Kind.the-variants.{FileHeader, BatchHeaderB, BatchHeaderC, FixedDescription, OrderingParty, Transaction, NamePayer, CityPayer, PaymentReference, Description, NameBeneficiary, CityBeneficiary, BatchTrailer, FileTrailer}
 use Rattle.format.specs.declared.Group.{Group}
+use Rattle.format.proofs.Cutting.{Line}
 use Rattle.format.proofs.Checks.{judge, judge-pass, pass-judge, lineChecks, line-passed, Written, line-written}
 use Rattle.format.proofs.Every.{kinds, every}
 use Rattle.format.proofs.Reader.{fresh, left, Phase, Context, State, at, ended, MayEnd, unnamed-payment, named-payment, open-debit, Place, file-header, first-batch-b, first-batch-c, next-batch-b, next-batch-c, fixed-description, ordering-party, first-item, next-item, batch-trailer, payment-reference, payment-description, payment-description-more, beneficiary-name, beneficiary-city, payer-name, payer-city, debit-reference, debit-description, debit-description-more, file-trailer, Choice, choices, advance, tests, maxima, checks, kindOf, find, lost, found, step, Ok}
@@ -131,9 +130,9 @@ not-ended file-trailer = tt
 pub line-widths : (k : Kind) → (length (code k) ≡ 5) × (widths (layout k) ≡ 45)
 line-widths = every (λ k. (length (code k) ≡ 5) × (widths (layout k) ≡ 45)) (refl, refl) (refl, refl) (refl, refl) (refl, refl) (refl, refl) (refl, refl) (refl, refl) (refl, refl) (refl, refl) (refl, refl) (refl, refl) (refl, refl) (refl, refl) (refl, refl)
 
-line-parts : (z c : List ℕ) → T (ends z c) → c ≡ take 5 c ++ (take 45 (drop 5 c) ++ z)
-line-parts z c f =
-    sym (take-append-drop 5 c) ∙ ap (λ l. take 5 c ++ l) (sym (take-append-drop 45 (drop 5 c)) ∙ ap (λ l. take 45 (drop 5 c) ++ l) (drop-drop 45 5 c ∙ same→eq (drop 50 c) z f))
+line-parts : (z c : List ℕ) → drop 50 c ≡ z → c ≡ take 5 c ++ (take 45 (drop 5 c) ++ z)
+line-parts z c e =
+    sym (take-append-drop 5 c) ∙ ap (λ l. take 5 c ++ l) (sym (take-append-drop 45 (drop 5 c)) ∙ ap (λ l. take 45 (drop 5 c) ++ l) (drop-drop 45 5 c ∙ e))
 
 -- ## What a step means
 pub record Taken (z : List ℕ) (p : Phase) (s : Context) (c : List ℕ) (s′ : State) : Type 0 where
@@ -144,17 +143,14 @@ pub record Taken (z : List ℕ) (p : Phase) (s : Context) (c : List ℕ) (s′ :
   pub after : advance place s fields-of ≡ s′
   pub line : c ≡ lineOf z (kind, fields-of)
 
-pub taken : (z : List ℕ) (p : Phase) (s : Context) (b c r : List ℕ) (s′ : State) → lineCut z b ≡ some (c, r) → step (at p s) c ≡ next s′ → Taken z p s c s′
-taken z p s b c r s′ h e = at-kind (find (take 5 c) (choices p)) refl e
+pub taken : (z : List ℕ) (p : Phase) (s : Context) (c : List ℕ) (s′ : State) → Line z c → step (at p s) c ≡ next s′ → Taken z p s c s′
+taken z p s c s′ h e = at-kind (find (take 5 c) (choices p)) refl e
   where
-    whole : (length c ≡ 50 + length z) × T (ends z c)
-    whole = block-of (50 + length z) (omega arith) (ends z) b c r h
-
     l : List ℕ
     l = take 45 (drop 5 c)
 
     l-length : length l ≡ 45
-    l-length = length-take-le 45 (drop 5 c) (rw length-drop (omega (arith, whole .0)))
+    l-length = length-take-le 45 (drop 5 c) (rw length-drop (omega (arith, h .long)))
 
     none-next : (k : Option Kind) → lost k ≡ next s′ → ⊥
     none-next none e = next≢refuse s′ unknownRecord 1 e
@@ -173,7 +169,7 @@ taken z p s b c r s′ h e = at-kind (find (take 5 c) (choices p)) refl e
           place = o .1;
           ok = record { fits = w .fits; holds = w .holds; max = w .after };
           after = j .1;
-          line = line-parts z c (whole .1) ∙ ap₂ (λ a b. a ++ (b ++ z)) (find-code (take 5 c) (choices p) o q) (w .same);
+          line = line-parts z c (h .ended) ∙ ap₂ (λ a b. a ++ (b ++ z)) (find-code (take 5 c) (choices p) o q) (w .same);
         }
 
 -- ## The line of a record that is right here
@@ -206,8 +202,8 @@ module _ {p : Phase} {k : Kind} (pl : Place p k) (s : Context) (x : Fields k) (o
       parts : lineOf z (k, x) ++ r ≡ (code k ++ writeFields (layout k) x) ++ (z ++ r)
       parts = simp append-assoc refl
 
-  pub line-is-cut : (z r : List ℕ) → lineCut z (lineOf z (k, x) ++ r) ≡ some (lineOf z (k, x), r)
-  line-is-cut z r = again (50 + length z) (omega arith) (ends z) (lineOf z (k, x)) r (line-length z) (subst (λ l. T (same l z)) (sym (line-end z)) (same-refl z))
+  pub is-line : (z : List ℕ) → Line z (lineOf z (k, x))
+  is-line z = record { long = line-length z; ended = line-end z }
 
   pub line-is-taken : (z : List ℕ) → step (at p s) (lineOf z (k, x)) ≡ next (advance pl s x)
   line-is-taken z =

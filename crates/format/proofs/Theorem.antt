@@ -10,11 +10,11 @@ use lib.Dec.{T}
 use Rattle.machine.proofs.Base.{next, Answer, accepted, refused, append-inj}
 use Rattle.machine.proofs.Lines.{answer, Acc, stop, line, accepts, accepted-lines, refusal}
 use Rattle.format.specs.Language.{Rec, File, Ending, endBytes, lineOf, linesOf, Reads}
-use Rattle.format.specs.Cutting.{Fixed, unfixed, cut, turn, firstLines, AreLines}
+use Rattle.format.specs.Cutting.{EndingSoFar, noEnding, cut, turn, firstLines, AreLines}
 use Rattle.format.specs.Statements.{InLanguage, Completable, RefusalTells}
 use Rattle.format.proofs.Reader.{Phase, start, headed, opened, ordered, paying, paid, owing, owed, closed, done, Context, State, at, begin, ended, isEnd, advance, step, Path, end, go}
-use Rattle.format.proofs.Link.{not-ended, taken, line-length, line-after, line-is-cut, line-is-taken, line-one}
-use Rattle.format.proofs.Cutting.{Open, fixed-open, fixed-only, all-open, anEnd, is-open, end-one, cut-as, cut-by, cuts}
+use Rattle.format.proofs.Link.{not-ended, taken, line-length, line-after, is-line, line-is-taken, line-one}
+use Rattle.format.proofs.Cutting.{Open, ending-open, ending-only, all-open, anEnding, is-open, end-one, cut-as, cut-by, cuts}
 use Rattle.format.proofs.Sound.{sound}
 use Rattle.format.proofs.Complete.{complete}
 use Rattle.format.proofs.Live.{Invariant, invariant-kept, live}
@@ -22,21 +22,21 @@ use Rattle.format.proofs.One.{one-file}
 
 -- the reader, on the bytes of a file
 unfoldable pub readFile : List ℕ → Answer
-readFile b = answer State step isEnd cut turn begin unfixed b
+readFile b = answer State step isEnd cut turn begin noEnding b
 
-abbrev Takes : State → Fixed → List ℕ → Type 0
+abbrev Takes : State → EndingSoFar → List ℕ → Type 0
 Takes = Acc State step isEnd cut turn
 
 -- ## A way over records is one over their lines
 
-path→takes : {s : State} {e : Fixed} {rs : List Rec} (z : Ending) → Open e z → Path s rs → Takes s e (linesOf (endBytes z) rs)
+path→takes : {s : State} {e : EndingSoFar} {rs : List Rec} (z : Ending) → Open e z → Path s rs → Takes s e (linesOf (endBytes z) rs)
 unfolding linesOf
 path→takes z i end = stop tt
 path→takes {e = e} z i (go {s = s} {rs} k x pl o q) =
     let first = lineOf (endBytes z) (k, x) in
     let others = linesOf (endBytes z) rs in
-    let w = cut-by e z i (linesOf (endBytes z) ((k, x) ∷ rs)) first others (line-is-cut pl s x o (endBytes z) others) in
-    line (advance pl s x) first others (not-ended pl) (w .0) (line-is-taken pl s x o (endBytes z)) (subst (λ y. Takes (advance pl s x) y others) (sym (w .1)) (path→takes z (fixed-open z) q))
+    let w = cut-by z first (is-line pl s x o (endBytes z)) others e i in
+    line (advance pl s x) first others (not-ended pl) (w .0) (line-is-taken pl s x o (endBytes z)) (subst (λ y. Takes (advance pl s x) y others) (sym (w .1)) (path→takes z (ending-open z) q))
 
 -- ## And back
 
@@ -52,20 +52,20 @@ at-end (owed c r) s t = absurd t
 at-end (closed o) s t = absurd t
 at-end done s t = end
 
-Way : State → Fixed → List ℕ → Type 0
+Way : State → EndingSoFar → List ℕ → Type 0
 Way s e b = (z : Ending) × Open e z × ((rs : List Rec) × Path s rs × (b ≡ linesOf (endBytes z) rs))
 
-way-end : (s : State) (e : Fixed) → T (isEnd s) → Way s e []
+way-end : (s : State) (e : EndingSoFar) → T (isEnd s) → Way s e []
 unfolding Way linesOf
-way-end (at p s) e t = (anEnd e, is-open e, ([], at-end p s t, refl))
+way-end (at p s) e t = (anEnding e, is-open e, ([], at-end p s t, refl))
 
-way-front : (s s′ : State) (e : Fixed) (b c r : List ℕ) → cut e b ≡ some (c, r) → step s c ≡ next s′ → Way s′ (turn e c) r → Way s e b
+way-front : (s s′ : State) (e : EndingSoFar) (b c r : List ℕ) → cut e b ≡ some (c, r) → step s c ≡ next s′ → Way s′ (turn e c) r → Way s e b
 unfolding Way linesOf
 way-front (at p s) s′ e b c r h g v =
     let w = cut-as e b c r h in
-    let m = taken (endBytes (w .z)) p s b c r s′ (w .by) g in
+    let m = taken (endBytes (w .z)) p s c s′ (w .is) g in
     let q = subst (λ y. Way s′ y r) (w .after) v in
-    let l : r ≡ linesOf (endBytes (w .z)) (q .2 .0) = q .2 .2 ∙ ap (λ z. linesOf (endBytes z) (q .2 .0)) (sym (fixed-only (w .z) (q .0) (q .1))) in (
+    let l : r ≡ linesOf (endBytes (w .z)) (q .2 .0) = q .2 .2 ∙ ap (λ z. linesOf (endBytes z) (q .2 .0)) (sym (ending-only (w .z) (q .0) (q .1))) in (
       w .z,
       w .still,
       (
@@ -75,11 +75,11 @@ way-front (at p s) s′ e b c r h g v =
       ),
     )
 
-takes→path : {s : State} {e : Fixed} {b : List ℕ} → Takes s e b → Way s e b
+takes→path : {s : State} {e : EndingSoFar} {b : List ℕ} → Takes s e b → Way s e b
 takes→path {s} {e} (stop t) = way-end s e t
 takes→path {s} {e} {b} (line s′ c r t h g a) = way-front s s′ e b c r h g (takes→path a)
 
-takes→reads : (b : List ℕ) → Takes begin unfixed b → InLanguage b
+takes→reads : (b : List ℕ) → Takes begin noEnding b → InLanguage b
 unfolding Reads Way
 takes→reads b a =
     let w = takes→path a in
@@ -87,15 +87,15 @@ takes→reads b a =
     let f = sound (q .0) (q .1) in
     (f .0, (f .1, (w .0, q .2 ∙ ap (linesOf (endBytes (w .0))) (f .2))))
 
-reads→takes : (b : List ℕ) → InLanguage b → Takes begin unfixed b
+reads→takes : (b : List ℕ) → InLanguage b → Takes begin noEnding b
 unfolding Reads
-reads→takes b (f, r) = subst (Takes begin unfixed) (sym (r .1 .1)) (path→takes (r .1 .0) (all-open (r .1 .0)) (complete f (r .0)))
+reads→takes b (f, r) = subst (Takes begin noEnding) (sym (r .1 .1)) (path→takes (r .1 .0) (all-open (r .1 .0)) (complete f (r .0)))
 
 -- ## ACCEPTED exactly when it is in the language
 
 pub language : (b : List ℕ) → ((n : ℕ) × (readFile b ≡ accepted n)) ↔ InLanguage b
 unfolding readFile
-language b = let w = accepts State step isEnd cut turn cuts begin unfixed b in (λ a. takes→reads b (w .0 a), λ r. w .1 (reads→takes b r))
+language b = let w = accepts State step isEnd cut turn cuts begin noEnding b in (λ a. takes→reads b (w .0 a), λ r. w .1 (reads→takes b r))
 
 -- ## ONE READING
 
@@ -118,19 +118,19 @@ one-reading b f g r q = one-file f g (r .0) (q .0) (paths-one (complete f (r .0)
 
 -- ## WHAT A REFUSAL TELLS
 
-invariant-step : (s s′ : State) (e : Fixed) (b c r : List ℕ) → cut e b ≡ some (c, r) → Invariant s → step s c ≡ next s′ → Invariant s′
+invariant-step : (s s′ : State) (e : EndingSoFar) (b c r : List ℕ) → cut e b ≡ some (c, r) → Invariant s → step s c ≡ next s′ → Invariant s′
 invariant-step (at p s) s′ e b c r h i g =
     let w = cut-as e b c r h in
-    let m = taken (endBytes (w .z)) p s b c r s′ (w .by) g in
+    let m = taken (endBytes (w .z)) p s c s′ (w .is) g in
     subst Invariant (m .after) (invariant-kept (m .place) s (m .fields-of) (m .ok) i)
 
-live-bytes : (s : State) (e : Fixed) → Invariant s → (q : List ℕ) × Takes s e q
-live-bytes s e i = let r = live s i in (linesOf (endBytes (anEnd e)) (r .0), path→takes (anEnd e) (is-open e) (r .1))
+live-bytes : (s : State) (e : EndingSoFar) → Invariant s → (q : List ℕ) × Takes s e q
+live-bytes s e i = let r = live s i in (linesOf (endBytes (anEnding e)) (r .0), path→takes (anEnding e) (is-open e) (r .1))
 
 pub refusals : (b : List ℕ) (number n column : ℕ) → readFile b ≡ refused number n column → RefusalTells b number n
 unfolding readFile
 refusals b number n column e =
-    let r = refusal State step isEnd cut turn cuts Invariant invariant-step live-bytes begin unfixed refl b number n column e in
+    let r = refusal State step isEnd cut turn cuts Invariant invariant-step live-bytes begin noEnding refl b number n column e in
     let j : r .0 ≡ n - 1 = omega (arith, r .1) in
     let i : suc (r .0) ≡ n = omega (arith, r .1) in
     record {
@@ -144,4 +144,4 @@ refusals b number n column e =
 
 pub lines-read : (b : List ℕ) (n : ℕ) → readFile b ≡ accepted n → AreLines n b
 unfolding readFile
-lines-read b n e = accepted-lines State step isEnd cut turn cuts begin unfixed b n e
+lines-read b n e = accepted-lines State step isEnd cut turn cuts begin noEnding b n e

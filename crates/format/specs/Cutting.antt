@@ -1,43 +1,57 @@
 -- The lines of a file: 50 characters and then the end.
-use mathlib.Core.Bool.{Bool}
+use mathlib.Core.Bool.{Bool, cond}
 use mathlib.Core.List.{List, [], _∷_}
-use Prim.Native.Nat.{ℕ, zero, suc, _+_}
-use lib.ListN.{length, take, drop}
+use mathlib.Core.Option.{none, some}
+use Prim.Native.Nat.{ℕ, zero, suc, _-_}
+use lib.ListN.{take, drop}
 use Rattle.machine.specs.Lists.{same}
-use Rattle.machine.specs.Lines.{Cut, blockCut, front, Exactly}
-use Rattle.format.specs.Language.{crlf, endBytes}
+use Rattle.machine.specs.Lines.{Split, front, Exactly}
+use Rattle.format.specs.Language.{Ending, crlf, endBytes}
+use Rattle.format.specs.declared.Cut.{Cut}
 
-abbrev pub ends : List ℕ → List ℕ → Bool
-ends z c = same (drop 50 c) z
+-- after 50 characters there is this end, and no more
+abbrev pub endsIn : Ending → List ℕ → Bool
+endsIn z c = same (drop 50 c) (endBytes z)
 
-abbrev pub lineCut : List ℕ → List ℕ → Cut
-lineCut z = blockCut (50 + length z) (ends z)
+-- THE CUT of the first line of some bytes: how many it takes, and whether it is whole
+unfoldable pub cutOf : List ℕ → Cut
+cutOf b = record { bytes = 52; whole = endsIn crlf (take 52 b) }
 
--- what the lines so far have fixed of the cutting: nothing
-abbrev pub Fixed : Type 0
-Fixed = Unit {0}
+-- the bytes of the first line, or as many as there are, and the bytes after it
+abbrev pub nextLine : List ℕ → List ℕ
+nextLine b = take (cutOf b .bytes) b
 
-abbrev pub unfixed : Fixed
-unfixed = tt
+abbrev pub afterNext : List ℕ → List ℕ
+afterNext b = drop (cutOf b .bytes) b
 
-abbrev pub cut : Fixed → List ℕ → Cut
-cut e = lineCut (endBytes crlf)
+-- the lines of some bytes, whole or not; k bytes are still to be passed
+unfoldable pub linesFrom : ℕ → List ℕ → List (List ℕ)
+linesFrom k [] = []
+linesFrom (suc k) (x ∷ xs) = linesFrom k xs
+linesFrom zero (x ∷ xs) = nextLine (x ∷ xs) ∷ linesFrom (cutOf (x ∷ xs) .bytes - 1) xs
 
-abbrev pub turn : Fixed → List ℕ → Fixed
+abbrev pub linesIn : List ℕ → List (List ℕ)
+linesIn b = linesFrom 0 b
+
+-- ## Whole lines, for the reader of lines
+
+-- the ending that the lines so far have: there is one only, so nothing is to be known
+abbrev pub EndingSoFar : Type 0
+EndingSoFar = Unit {0}
+
+abbrev pub noEnding : EndingSoFar
+noEnding = tt
+
+abbrev pub turn : EndingSoFar → List ℕ → EndingSoFar
 turn e c = e
+
+-- a first line that is whole, and the bytes after it
+abbrev pub cut : EndingSoFar → List ℕ → Split
+cut e b = cond (cutOf b .whole) (some (nextLine b, afterNext b)) none
 
 -- the first n lines of a file; bytes that are n lines and no more
 abbrev pub firstLines : ℕ → List ℕ → List ℕ
-firstLines n b = front cut turn unfixed n b
+firstLines n b = front cut turn noEnding n b
 
 abbrev pub AreLines : ℕ → List ℕ → Type 0
-AreLines n b = Exactly cut turn unfixed n b
-
--- the bytes by 52, whatever they are, of which the last may be fewer; k bytes are still to be passed
-unfoldable pub rowsFrom : ℕ → List ℕ → List (List ℕ)
-rowsFrom k [] = []
-rowsFrom (suc k) (x ∷ xs) = rowsFrom k xs
-rowsFrom zero (x ∷ xs) = take 52 (x ∷ xs) ∷ rowsFrom 51 xs
-
-abbrev pub rows : List ℕ → List (List ℕ)
-rows xs = rowsFrom 0 xs
+AreLines n b = Exactly cut turn noEnding n b

@@ -2,6 +2,7 @@
 // answers and limits.
 ghost use mathlib.Core.Path.{_≡_};
 ghost use Rattle.format.specs.Answers.{refusal, acceptance};
+ghost use Rattle.format.specs.Cutting.{cutOf};
 ghost use Rattle.format.specs.Rules.{mostDescriptions};
 
 pub mod codes;
@@ -82,6 +83,12 @@ impl Answer {
     }
 }
 
+// The first line of some bytes: how many it takes, and whether it is whole.
+pub struct Cut {
+    pub bytes: usize,
+    pub whole: bool,
+}
+
 // The numbers of 01's table.
 pub const ACCEPTED: u8 = 0;
 
@@ -127,4 +134,20 @@ pub fn most_descriptions(reference: bool) -> u64
         return 3;
     }
     MAX_DESCRIPTIONS
+}
+
+// The cut of the first line: 50 characters, 13 and 10.
+pub fn cut_of(rest: &[u8]) -> Cut
+    ensures { λ r. ⌜ r ≡ cutOf (now (rest .entry)) ⌝ }
+{
+    if rest.len() < 52 {
+        return Cut {
+            bytes: 52,
+            whole: false,
+        };
+    }
+    Cut {
+        bytes: 52,
+        whole: (rest[50] == 13) & (rest[51] == 10),
+    }
 }

@@ -10,13 +10,13 @@ use lib.ListN.{length, drop}
 use Rattle.machine.specs.Lists.{pick, putIn}
 use Rattle.format.specs.Answers.{refusal}
 use Rattle.format.specs.declared.Answer.{Answer}
-use Rattle.format.specs.Cutting.{rows}
+use Rattle.format.specs.Cutting.{linesIn}
 use Rattle.format.specs.Rules.{mostDescriptions}
 use Rattle.field.proofs.Putting.{put-front}
 use Rattle.reading.specs.Check.{checkOf}
 use Rattle.descriptions.specs.Texts.{merged}
 use Rattle.descriptions.specs.declared.Descriptions.{Descriptions}
-use Rattle.items.specs.Search.{noFields, started, afterRows}
+use Rattle.items.specs.Search.{noFields, started, afterLines}
 use Rattle.items.specs.Answering.{answered, isFound, textsFound, answeredBy, roomBy, isWithin, answeredAt, roomAt, itemOf, roomAfter}
 use Rattle.items.specs.declared.ItemFields.{ItemFields}
 use Rattle.items.specs.declared.Found.{Found}
@@ -89,11 +89,11 @@ pub ruleset limits = (at-within, at-beyond, room-within, room-beyond, needs)
 
 -- ## The whole
 
-module _ {s t : Search} {a : Answer} (file : List ℕ) (batch item : ℕ) (e : a ≡ checkOf file) (f : s ≡ started batch item) (g : t ≡ afterRows s (rows file)) where
+module _ {s t : Search} {a : Answer} (file : List ℕ) (batch item : ℕ) (e : a ≡ checkOf file) (f : s ≡ started batch item) (g : t ≡ afterLines s (linesIn file)) where
   pub item-via : {w : ItemRead} (room : ℕ) → w ≡ answeredBy t a room → w ≡ itemOf file batch item room
   unfolding itemOf
-  item-via room h = h ∙ ap₂ (λ x y. answeredBy x y room) (g ∙ ap (λ x. afterRows x (rows file)) f) e
+  item-via room h = h ∙ ap₂ (λ x y. answeredBy x y room) (g ∙ ap (λ x. afterLines x (linesIn file)) f) e
 
   pub room-via : {o : List ℕ} (out : List ℕ) → o ≡ roomBy t a out → o ≡ roomAfter file batch item out
   unfolding roomAfter
-  room-via out h = h ∙ ap₂ (λ x y. roomBy x y out) (g ∙ ap (λ x. afterRows x (rows file)) f) e
+  room-via out h = h ∙ ap₂ (λ x y. roomBy x y out) (g ∙ ap (λ x. afterLines x (linesIn file)) f) e

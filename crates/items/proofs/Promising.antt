@@ -12,7 +12,7 @@ use lib.Dec.{T, leb}
 use Rattle.machine.specs.Lists.{pick, spaces}
 use Rattle.format.specs.Rules.{mostDescriptions, typeOf, isTypeIn, needsName}
 use Rattle.format.specs.Language.{Name, Item, Batch, File, Reads, fileRecs, ReferenceOk, DescriptionsOk, NameOk, isSome, ItemOk, ItemsOk, Before, noneBefore, afterThat, BatchOk, BatchesOk}
-use Rattle.format.specs.Cutting.{rows, AreLines}
+use Rattle.format.specs.Cutting.{linesIn, AreLines}
 use Rattle.format.specs.Statements.{InLanguage}
 use Rattle.format.specs.declared.Group.{Group}
 use Rattle.format.specs.declared.TypeRead.{TypeRead}
@@ -28,7 +28,7 @@ use Rattle.file.proofs.Meaning.{means}
 use Rattle.descriptions.specs.Texts.{noTexts, inPlaces, merged, textFrom}
 use Rattle.descriptions.specs.declared.Descriptions.{Descriptions}
 use Rattle.descriptions.proofs.Lists.{Full, full-more, with-places, merged-places}
-use Rattle.items.specs.Search.{filledTo, noFields, nothingFound, withItem, started, afterRows}
+use Rattle.items.specs.Search.{filledTo, noFields, nothingFound, withItem, started, afterLines}
 use Rattle.items.specs.Answering.{answered, isFound, textsFound, answeredBy, roomBy}
 use Rattle.items.specs.Promises.{nth, ItemAt, itemWith, itemOfBatch, itemAt, referenceFor, nameFor, fieldsFor, textsFor, handedOut, roomWith, Promised}
 use Rattle.items.specs.declared.ItemFields.{ItemFields}
@@ -136,12 +136,12 @@ batches-find : (g : Group) (p : Before) (bs : List Batch) → BatchesOk g p bs �
 batches-find g p bs h b n none e = refl
 batches-find g p bs h b n (some x) e = let k = nth-batch g p b bs h x e in batch-finds g (k .0) x (k .1) n (nth n (x .items)) refl
 
-reading-finds : (file : List ℕ) (f : File) (b n : ℕ) → Reads file f → Finds (afterRows (started b n) (rows file) .found) (itemAt f b n)
+reading-finds : (file : List ℕ) (f : File) (b n : ℕ) → Reads file f → Finds (afterLines (started b n) (linesIn file) .found) (itemAt f b n)
 unfolding Reads afterRecs
 reading-finds file f b n r =
     let v = r .0 in
-    let e : afterRows (started b n) (rows file) ≡ afterRecs (started b n) (fileRecs f) = ap (λ y. afterRows (started b n) (rows y)) (r .1 .1) ∙ lines-back (r .1 .0) (complete f v) (started b n) in
-    let d : afterRows (started b n) (rows file) .found ≡ batchFound nothingFound (nth b (f .batches)) n = ap (λ (s : Search). s .found) e ∙ batches-on (f .group) b n false false nothingFound (f .batches) in
+    let e : afterLines (started b n) (linesIn file) ≡ afterRecs (started b n) (fileRecs f) = ap (λ y. afterLines (started b n) (linesIn y)) (r .1 .1) ∙ lines-back (r .1 .0) (complete f v) (started b n) in
+    let d : afterLines (started b n) (linesIn file) .found ≡ batchFound nothingFound (nth b (f .batches)) n = ap (λ (s : Search). s .found) e ∙ batches-on (f .group) b n false false nothingFound (f .batches) in
     subst (λ x. Finds x (itemAt f b n)) (sym d) (batches-find (f .group) noneBefore (f .batches) (v .batches-ok) b n (nth b (f .batches)) refl)
 
 -- ## The answer, and the room
@@ -169,7 +169,7 @@ handed-line n (some x) room = by (leb 128 room)
 
 module _ (file : List ℕ) (batch item : ℕ) where
   searched : Search
-  searched = afterRows (started batch item) (rows file)
+  searched = afterLines (started batch item) (linesIn file)
 
   module _ (room : ℕ) where
     asked : ItemRead
@@ -179,7 +179,7 @@ module _ (file : List ℕ) (batch item : ℕ) where
     unfolding asked searched
     handed-of f r =
         let z = means file .accepted-exactly .1 (f, r) in
-        answer-of (afterRows (started batch item) (rows file)) (checkOf file) room z (means file .accepted-lines z .1) (itemAt f batch item) (reading-finds file f batch item r)
+        answer-of (afterLines (started batch item) (linesIn file)) (checkOf file) room z (means file .accepted-lines z .1) (itemAt f batch item) (reading-finds file f batch item r)
 
     line-of : InLanguage file → asked .answer .line ≡ checkOf file .line
     line-of l = ap (λ (r : ItemRead). r .answer .line) (handed-of (l .0) (l .1)) ∙ handed-line (checkOf file .line) (itemAt (l .0) batch item) room
@@ -189,24 +189,24 @@ module _ (file : List ℕ) (batch item : ℕ) where
 
   refused-of : (room : ℕ) → (InLanguage file → ⊥) → asked room ≡ answered (checkOf file) noFields
   unfolding asked searched
-  refused-of room n = sym (by-refusal (afterRows (started batch item) (rows file)) (checkOf file) room (not-accepted n) refl)
+  refused-of room n = sym (by-refusal (afterLines (started batch item) (linesIn file)) (checkOf file) room (not-accepted n) refl)
 
   promised : (out : List ℕ) → Promised file batch item out (asked (length out)) (roomBy searched (checkOf file) out)
   unfolding searched
   promised out =
       record {
         handed = λ f r. handed-of (length out) f r ∙ ap (λ n. handedOut n (itemAt f batch item) (length out)) (sym (line-of (length out) (f, r)));
-        written = λ f r. room-of (afterRows (started batch item) (rows file)) (checkOf file) out (means file .accepted-exactly .1 (f, r)) (itemAt f batch item) (reading-finds file f batch item r);
+        written = λ f r. room-of (afterLines (started batch item) (linesIn file)) (checkOf file) out (means file .accepted-exactly .1 (f, r)) (itemAt f batch item) (reading-finds file f batch item r);
         lines = λ l. subst (λ n. AreLines n file) (sym (line-of (length out) l)) (means file .accepted-lines (means file .accepted-exactly .1 l) .0);
         refusal = λ n. let e = refused-of (length out) n in (λ z. not-accepted n (sym (ap (λ (r : ItemRead). r .answer .number) e) ∙ z), e);
-        untouched = λ n. sym (room-refused (afterRows (started batch item) (rows file)) (checkOf file) out (not-accepted n));
+        untouched = λ n. sym (room-refused (afterLines (started batch item) (linesIn file)) (checkOf file) out (not-accepted n));
       }
 
   -- of the function's own result
-  pub promised-via : {s t : Search} {a : Answer} {w : ItemRead} {o : List ℕ} (out : List ℕ) → a ≡ checkOf file → s ≡ started batch item → t ≡ afterRows s (rows file) → w ≡ answeredBy t a (length out) → o ≡ roomBy t a out → Promised file batch item out w o
+  pub promised-via : {s t : Search} {a : Answer} {w : ItemRead} {o : List ℕ} (out : List ℕ) → a ≡ checkOf file → s ≡ started batch item → t ≡ afterLines s (linesIn file) → w ≡ answeredBy t a (length out) → o ≡ roomBy t a out → Promised file batch item out w o
   unfolding asked searched
   promised-via {w = w} out e f g h k =
-      let u = g ∙ ap (λ x. afterRows x (rows file)) f in
+      let u = g ∙ ap (λ x. afterLines x (linesIn file)) f in
       let p : w ≡ asked (length out) = h ∙ ap₂ (λ x y. answeredBy x y (length out)) u e in
       let q = k ∙ ap₂ (λ x y. roomBy x y out) u e in
       subst (Promised file batch item out w) (sym q) (subst (λ x. Promised file batch item out x (roomBy searched (checkOf file) out)) (sym p) (promised out))

@@ -9,14 +9,14 @@ use lib.ListN.{length, take, length-append}
 use lib.Seq.{take-at, drop-at}
 use lib.Dec.{leb}
 use Rattle.format.specs.Fields.{Field, numeric, filled, optional, free, filler, width, Value, Values, writeField, writeFields, Fit, Fits}
-use Rattle.format.specs.Cutting.{rowsFrom, rows}
+use Rattle.format.specs.Cutting.{linesFrom, linesIn}
 use Rattle.format.specs.Records.{layout, code, Fields}
-use Rattle.format.specs.Language.{Rec, Ending, crlf, endBytes, lineOf, linesOf}
+use Rattle.format.specs.Language.{Rec, Ending, endBytes, lineOf, linesOf}
 use Rattle.format.specs.declared.Kind.{Kind}
 use Rattle.format.specs.declared.Kind.the-variants.{FileHeader, BatchHeaderB, BatchHeaderC, FixedDescription, OrderingParty, Transaction, NamePayer, CityPayer, PaymentReference, Description, NameBeneficiary, CityBeneficiary, BatchTrailer, FileTrailer}
-use Rattle.format.proofs.ByRows.{rows-line}
+use Rattle.format.proofs.Cutting.{lines-line}
 use Rattle.format.proofs.Checks.{field-read}
-use Rattle.format.proofs.Link.{line-widths, line-length}
+use Rattle.format.proofs.Link.{line-widths, is-line}
 use Rattle.format.proofs.Reader.{State, Path, end, go}
 use Rattle.machine.specs.Lists.{pick, all, same, isDigit}
 use Rattle.machine.proofs.Base.{and-first, yes}
@@ -28,7 +28,7 @@ use Rattle.field.proofs.Numerics.{digits-are}
 use Rattle.record.specs.Read.{transactionFor, valueIn, valuesAt, valuesOf}
 use Rattle.record.proofs.Reading.{narrow, narrow-first, narrow-rest, narrow-layout}
 use Rattle.record.specs.Kinds.{isName, isHeader}
-use Rattle.items.specs.Search.{headed, opened, fixed, described, referred, named, afterLine, afterRows}
+use Rattle.items.specs.Search.{headed, opened, fixed, described, referred, named, afterLine, afterLines}
 use Rattle.items.specs.declared.Search.{Search}
 
 -- ## The fields of a written line
@@ -102,12 +102,10 @@ unfoldable pub afterRecs : Search → List Rec → Search
 afterRecs s [] = s
 afterRecs s (r ∷ rs) = afterRecs (afterFor s (r .0) (r .1)) rs
 
-pub lines-back : {p : State} {rs : List Rec} (z : Ending) → Path p rs → (s : Search) → afterRows s (rows (linesOf (endBytes z) rs)) ≡ afterRecs s rs
-unfolding afterRows afterRecs linesOf rowsFrom
+pub lines-back : {p : State} {rs : List Rec} (z : Ending) → Path p rs → (s : Search) → afterLines s (linesIn (linesOf (endBytes z) rs)) ≡ afterRecs s rs
+unfolding afterLines afterRecs linesOf linesFrom
 lines-back z end s = refl
-lines-back crlf (go {s = c} {rs = rs} k x pl o p) s =
-    let line : List ℕ = lineOf (13 ∷ 10 ∷ []) (k, x) in
-    let l : length line ≡ 52 = line-length pl c x o (13 ∷ 10 ∷ []) in
-    ap (afterRows s) (rows-line line (linesOf (13 ∷ 10 ∷ []) rs) l)
-    ∙ ap (λ t. afterRows t (rows (linesOf (13 ∷ 10 ∷ []) rs))) (line-back s k x (13 ∷ 10 ∷ []) (o .fits))
-    ∙ lines-back crlf p (afterFor s k x)
+lines-back z (go {s = c} {rs = rs} k x pl o p) s =
+    ap (afterLines s) (lines-line z (lineOf (endBytes z) (k, x)) (linesOf (endBytes z) rs) (is-line pl c x o (endBytes z)))
+    ∙ ap (λ t. afterLines t (linesIn (linesOf (endBytes z) rs))) (line-back s k x (endBytes z) (o .fits))
+    ∙ lines-back z p (afterFor s k x)

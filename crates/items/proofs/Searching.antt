@@ -5,14 +5,14 @@ use mathlib.Core.List.{List}
 use mathlib.Core.Bool.{Bool, true, false}
 use borrow.Author.Needs.{needs}
 use borrow.Author.Tests.{ne-eqb}
-use lib.ListN.{length, take, drop}
+use lib.ListN.{length, drop}
 use lib.Dec.{eqb}
 use Rattle.machine.specs.Lists.{pick}
-use Rattle.format.specs.Cutting.{rows}
-use Rattle.format.proofs.ByRows.{rows-at, rows-none}
+use Rattle.format.specs.Cutting.{nextLine, linesIn}
+use Rattle.format.proofs.Cutting.{lines-at, lines-none}
 use Rattle.record.specs.declared.TransactionFields.{TransactionFields}
 use Rattle.descriptions.specs.declared.Descriptions.{Descriptions}
-use Rattle.items.specs.Search.{filledTo, withItem, withFixed, withOwn, referenceIn, withReference, nameIn, withName, searching, finding, opened, fixed, described, referred, named, afterLine, afterRows}
+use Rattle.items.specs.Search.{filledTo, withItem, withFixed, withOwn, referenceIn, withReference, nameIn, withName, searching, finding, opened, fixed, described, referred, named, afterLine, afterLines}
 use Rattle.items.specs.declared.ItemFields.{ItemFields}
 use Rattle.items.specs.declared.Found.{Found}
 use Rattle.items.specs.declared.Search.{Search}
@@ -94,18 +94,18 @@ pub ruleset texts = (fixed-in, described-in, referred-in, named-in, fixed-out, d
 
 -- what is left leads to what the whole leads to
 pub record Passing (s : Search) (bytes : List ℕ) (t : Search) (i : ℕ) : Type 0 where
-  pub is : afterRows t (rows (drop i bytes)) ≡ afterRows s (rows bytes)
+  pub is : afterLines t (linesIn (drop i bytes)) ≡ afterLines s (linesIn bytes)
 
 pub pass-none : (s : Search) (bytes : List ℕ) → Passing s bytes s 0
 pass-none s bytes = record { is = refl }
 
 module _ {s t : Search} {bytes : List ℕ} {i : ℕ} (c : Passing s bytes t i) where
-  pub pass-more : {p : List ℕ} {u : Search} → i < length bytes → p ≡ take 52 (drop i bytes) → u ≡ afterLine t p → Passing s bytes u (i + 52)
-  unfolding afterRows
-  pass-more h e d = record { is = ap (λ v. afterRows v (rows (drop (i + 52) bytes))) (d ∙ ap (afterLine t) e) ∙ sym (ap (afterRows t) (rows-at bytes i h)) ∙ c .is }
+  pub pass-more : {p : List ℕ} {u : Search} → i < length bytes → p ≡ nextLine (drop i bytes) → u ≡ afterLine t p → Passing s bytes u (i + length p)
+  unfolding afterLines
+  pass-more {p} h e d = record { is = ap (λ v. afterLines v (linesIn (drop (i + length p) bytes))) d ∙ sym (ap (afterLines t) (lines-at bytes i h e)) ∙ c .is }
 
-  pub pass-all : length bytes ≤ i → t ≡ afterRows s (rows bytes)
-  unfolding afterRows
-  pass-all h = sym (ap (afterRows t) (rows-none bytes i h)) ∙ c .is
+  pub pass-all : length bytes ≤ i → t ≡ afterLines s (linesIn bytes)
+  unfolding afterLines
+  pass-all h = sym (ap (afterLines t) (lines-none bytes i h)) ∙ c .is
 
 pub ruleset passes = (pass-none, pass-more, pass-all, needs)

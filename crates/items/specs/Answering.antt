@@ -7,13 +7,13 @@ use lib.Dec.{leb, eqb}
 use Rattle.machine.specs.Lists.{pick}
 use Rattle.format.specs.Answers.{accepted, noRoom, noSuchItem, beyondLimits, refusal}
 use Rattle.format.specs.declared.Answer.{Answer}
-use Rattle.format.specs.Cutting.{rows}
+use Rattle.format.specs.Cutting.{linesIn}
 use Rattle.format.specs.Rules.{maxFixed, maxDescriptions, mostDescriptions}
 use Rattle.format.specs.declared.TypeRead.{TypeRead}
 use Rattle.format.specs.declared.TypeRead.the-variants.{Of, NoType}
 use Rattle.reading.specs.Check.{checkOf}
 use Rattle.descriptions.specs.Texts.{merged}
-use Rattle.items.specs.Search.{noFields, started, afterRows}
+use Rattle.items.specs.Search.{noFields, started, afterLines}
 use Rattle.items.specs.declared.ItemFields.{ItemFields}
 use Rattle.items.specs.declared.Found.{Found}
 use Rattle.items.specs.declared.Search.{Search}
@@ -62,8 +62,8 @@ roomAt s a out = pick (isWithin (s .found)) (roomBy s a out) out
 
 -- THE ANSWER to one who asks for an item of a file, with so much room
 unfoldable pub itemOf : List ℕ → ℕ → ℕ → ℕ → ItemRead
-itemOf file batch item room = answeredBy (afterRows (started batch item) (rows file)) (checkOf file) room
+itemOf file batch item room = answeredBy (afterLines (started batch item) (linesIn file)) (checkOf file) room
 
 -- THE ROOM after it
 unfoldable pub roomAfter : List ℕ → ℕ → ℕ → List ℕ → List ℕ
-roomAfter file batch item out = roomBy (afterRows (started batch item) (rows file)) (checkOf file) out
+roomAfter file batch item out = roomBy (afterLines (started batch item) (linesIn file)) (checkOf file) out

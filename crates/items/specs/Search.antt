@@ -105,6 +105,6 @@ afterLine s line =
     s)))))
 
 -- lines one after the other
-unfoldable pub afterRows : Search → List (List ℕ) → Search
-afterRows s [] = s
-afterRows s (line ∷ lines) = afterRows (afterLine s line) lines
+unfoldable pub afterLines : Search → List (List ℕ) → Search
+afterLines s [] = s
+afterLines s (line ∷ lines) = afterLines (afterLine s line) lines

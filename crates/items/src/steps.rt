@@ -2,13 +2,14 @@
 ghost use mathlib.Core.Path.{_≡_};
 ghost use Prim.Native.Nat.{_-_};
 ghost use lib.ListN.{take, drop};
-ghost use Rattle.format.specs.Cutting.{rows};
+ghost use Rattle.format.specs.Cutting.{linesIn};
 ghost use Rattle.format.specs.declared.Kind.the-variants as kinds;
 ghost use Rattle.record.specs.Read.{transactionFor, valuesOf};
 ghost use Rattle.items.specs.Search.{started, headed, opened, fixed, described, referred, named};
-ghost use Rattle.items.specs.Search.{afterLine, afterRows};
+ghost use Rattle.items.specs.Search.{afterLine, afterLines};
 use crate::Found;
 use crate::Search;
+use field::bytes::next_line;
 use field::bytes::part;
 use format::Kind;
 use record::kinds::begins;
@@ -140,13 +141,14 @@ impl Search {
 
     // All lines of some bytes.
     pub fn lines(self, bytes: &[u8]) -> Search
-        ensures { λ r. ⌜ r ≡ afterRows self (rows (now (bytes .entry))) ⌝ }
+        ensures { λ r. ⌜ r ≡ afterLines self (linesIn (now (bytes .entry))) ⌝ }
     {
         let mut search = self;
         let mut i: usize = 0;
         while i < bytes.len() {
-            search = search.line(part(bytes, i, 52));
-            i += 52;
+            let line = next_line(bytes, i);
+            search = search.line(line);
+            i += line.len();
         }
         search
     }

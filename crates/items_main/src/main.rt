@@ -82,17 +82,16 @@ fn seek_line(before: Sought, rest: &[u8], failed: bool) -> Sought {
 // The lines of an input, up to the first that is refused. (A proved loop has to end, so this one counts its turns down from a number that no
 // run uses up.)
 fn seek_lines(before: Sought, fd: i32, name: &[u8]) -> Sought {
-    let mut buffer = [0u8; 65520];
+    let mut buffer = [0u8; streams::BUFFER];
     let mut lines = Lines::start();
     let mut sought = before;
     let mut turns = u64::MAX;
     while 0 < turns {
-        lines = lines.pulled(fd, name, &mut buffer);
+        lines = lines.next(fd, name, &mut buffer);
         sought = seek_line(sought, lines.line(&buffer), lines.failed);
         if sought.ended {
             return sought;
         }
-        lines = lines.passed(52);
         turns -= 1;
     }
     sought

@@ -109,17 +109,16 @@ fn list_line(before: Listed, rest: &[u8], failed: bool, page: &mut [u8]) -> List
 // The lines of an input, up to the first that is refused. (A proved loop has to end, so this one counts its turns down from a number that no
 // run uses up.)
 fn list_lines(before: Listed, fd: i32, name: &[u8], page: &mut [u8]) -> Listed {
-    let mut buffer = [0u8; 65520];
+    let mut buffer = [0u8; streams::BUFFER];
     let mut lines = Lines::start();
     let mut listed = before;
     let mut turns = u64::MAX;
     while 0 < turns {
-        lines = lines.pulled(fd, name, &mut buffer);
+        lines = lines.next(fd, name, &mut buffer);
         listed = list_line(listed, lines.line(&buffer), lines.failed, page);
         if listed.ended {
             return listed;
         }
-        lines = lines.passed(52);
         turns -= 1;
     }
     listed

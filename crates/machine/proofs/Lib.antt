@@ -1,4 +1,3 @@
 pub mod Base
 pub mod Digits
 pub mod Lines
-pub mod Cutters

@@ -8,21 +8,21 @@ use Prim.Native.Nat.{ℕ, zero, suc, _+_, _<_}
 use native.Mathlib.Omega.{arith}
 use lib.ListN.{length}
 use lib.Dec.{T, T-not}
-use Rattle.machine.specs.Lines.{Cut, firstOf, front, Exactly, no-lines, one-more}
+use Rattle.machine.specs.Lines.{Split, firstOf, front, Exactly, no-lines, one-more}
 use Rattle.machine.proofs.Base.{Outcome, next, refuse, Answer, accepted, refused, of-eq, of-eq-not, next≢refuse}
 
 -- what is owed of one cut: the line and the rest are the bytes; the rest is less; the line is cut off the same whatever follows it
-pub record Cuts (cut : List ℕ → Cut) : Type 0 where
+pub record Cuts (cut : List ℕ → Split) : Type 0 where
   pub splits : (b c r : List ℕ) → cut b ≡ some (c, r) → b ≡ c ++ r
   pub shrinks : (b c r : List ℕ) → cut b ≡ some (c, r) → length r < length b
   pub stable : (b c r : List ℕ) → cut b ≡ some (c, r) → (r′ : List ℕ) → cut (c ++ r′) ≡ some (c, r′)
 
-module _ (S : Type 0) (step : S → List ℕ → Outcome S) (isEnd : S → Bool) {E : Type 0} (cut : E → List ℕ → Cut) (turn : E → List ℕ → E) where
+module _ (S : Type 0) (step : S → List ℕ → Outcome S) (isEnd : S → Bool) {E : Type 0} (cut : E → List ℕ → Split) (turn : E → List ℕ → E) where
   abbrev pub follow : Outcome S → ℕ → (S → Answer) → Answer
   follow (next s) n k = k s
   follow (refuse c col) n k = refused c (suc n) col
 
-  abbrev pub on-line : Cut → S → E → ℕ → (S → E → List ℕ → Answer) → Answer
+  abbrev pub on-line : Split → S → E → ℕ → (S → E → List ℕ → Answer) → Answer
   on-line none s e n k = refused 1 (suc n) 0
   on-line (some (c, r)) s e n k = follow (step s c) n (λ s′. k s′ (turn e c) r)
 
@@ -61,7 +61,7 @@ module _ (S : Type 0) (step : S → List ℕ → Outcome S) (isEnd : S → Bool)
     at-step k s e n b c r t h ih (refuse m col) g = t-refuse c r t h g
 
     at-line : (k : ℕ) (s : S) (e : E) (n x : ℕ) (xs : List ℕ) → ((s′ : S) (e′ : E) (r : List ℕ) → length r < suc (length xs) → Trace s′ e′ (suc n) r (run k s′ e′ (suc n) r))
-        → (q : Bool) → isEnd s ≡ q → (o : Cut) → cut e (x ∷ xs) ≡ o → Trace s e n (x ∷ xs) (cond q (refused 11 (suc n) 0) (on-line o s e n (λ s′ e′ r. run k s′ e′ (suc n) r)))
+        → (q : Bool) → isEnd s ≡ q → (o : Split) → cut e (x ∷ xs) ≡ o → Trace s e n (x ∷ xs) (cond q (refused 11 (suc n) 0) (on-line o s e n (λ s′ e′ r. run k s′ e′ (suc n) r)))
     at-line k s e n x xs ih true q o h = t-late (of-eq _ q)
     at-line k s e n x xs ih false q none h = t-broken (of-eq-not _ q) h
     at-line k s e n x xs ih false q (some (c, r)) h = at-step k s e n (x ∷ xs) c r (of-eq-not _ q) h (λ s′. ih s′ (turn e c) r (L e .shrinks (x ∷ xs) c r h)) (step s c) refl
@@ -147,7 +147,7 @@ module _ (S : Type 0) (step : S → List ℕ → Outcome S) (isEnd : S → Bool)
         λ l. (l .0, line s′ c (lines (turn e c) j r ++ l .0) t (cut-front j e b c r h (l .0)) g (l .1)),
       )
 
-      late : (s : S) (e : E) (x : ℕ) (xs : List ℕ) → T (isEnd s) → (o : Cut) → cut e (x ∷ xs) ≡ o → Live s e (firstOf o (x ∷ xs) (λ c r. lines (turn e c) 0 r)) → ⊥
+      late : (s : S) (e : E) (x : ℕ) (xs : List ℕ) → T (isEnd s) → (o : Split) → cut e (x ∷ xs) ≡ o → Live s e (firstOf o (x ∷ xs) (λ c r. lines (turn e c) 0 r)) → ⊥
       late s e x xs t none h l = acc-more t (l .1)
       late s e x xs t (some ([], r)) h l = omega (arith, ap length (L e .splits (x ∷ xs) [] r h), L e .shrinks (x ∷ xs) [] r h)
       late s e x xs t (some (y ∷ c, r)) h l = acc-more t (l .1)

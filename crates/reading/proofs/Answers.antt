@@ -5,31 +5,31 @@ use mathlib.Core.List.{List, [], _∷_}
 use mathlib.Core.Bool.{Bool, true, false}
 use native.Mathlib.Omega.{arith}
 use borrow.Author.Tests.{eq-eqb, ne-eqb, leb-true}
-use lib.ListN.{length, take, length-take}
+use lib.ListN.{length, take}
 use lib.Dec.{T, eqb, leb}
 use mir.Val.{Fits}
 use mir.Syntax.{w64}
 use Rattle.machine.specs.Lists.{pick}
-use Rattle.format.specs.Cutting.{rows}
+use Rattle.format.specs.Cutting.{nextLine, linesIn}
 use Rattle.format.specs.Answers.{refusal, acceptance}
 use Rattle.format.specs.declared.Answer.{Answer}
 use Rattle.format.specs.declared.Kind.{Kind}
 use Rattle.format.specs.declared.Code.{Code}
 use Rattle.format.specs.declared.Code.the-variants.{Of, Unknown}
-use Rattle.format.proofs.ByRows.{rows-none}
+use Rattle.format.proofs.Cutting.{lines-one}
 use Rattle.record.specs.Faults.{fieldsOf, faultOf}
 use Rattle.record.specs.Read.{recordFor, textFor, valuesOf}
 use Rattle.record.specs.declared.Record.{Record}
 use Rattle.reading.specs.State.{startState, within}
 use Rattle.reading.specs.Step.{refused, judgedFirst, refusalLine, nothingRead, readBy, endedAt, stepAt}
-use Rattle.reading.specs.Check.{linesBy, linesOf, answerBy, restOf, checkOf}
+use Rattle.reading.specs.Check.{judgedAfter, judgedLines, answerBy, restOf, checkOf}
 use Rattle.reading.specs.declared.State.{State}
 use Rattle.reading.specs.declared.Judged.{Judged}
 use Rattle.reading.specs.declared.LineRead.{LineRead}
 use Rattle.record.proofs.Reading.{valued}
 use Rattle.reading.proofs.Limits.{within-line}
 use Rattle.reading.proofs.Judgements.{first-beyond}
-use Rattle.reading.proofs.Running.{first-52, goingOn, lines-on}
+use Rattle.reading.proofs.Running.{first-own}
 use Rattle.reading.proofs.Verdicts.{First, beyond, halted, moved, first}
 
 -- ## The lines of a first line's bytes
@@ -39,15 +39,14 @@ unfolding pick
 either-way true j = refl
 either-way false j = refl
 
-lines-first : (s : State) (xs : List ℕ) → 0 < length xs → linesOf s (take 52 xs) ≡ judgedFirst s xs
-unfolding linesOf linesBy pick
-lines-first s xs h = by (within s) refl
+one-line : (s : State) (xs : List ℕ) → 0 < length xs → judgedLines s (nextLine xs) ≡ judgedFirst s xs
+unfolding judgedLines judgedAfter pick
+one-line s xs h = by (within s) refl
   where
-    by : (q : Bool) → within s ≡ q → pick q (linesBy (refused s 0 0) (rows (take 52 xs))) (refused s 0 24) ≡ judgedFirst s xs
+    by : (q : Bool) → within s ≡ q → pick q (judgedAfter (refused s 0 0) (linesIn (nextLine xs))) (refused s 0 24) ≡ judgedFirst s xs
     by true w =
-        let j = judgedFirst s (take 52 xs) in
-        lines-on (refused s 0 0) (take 52 xs) (rw length-take (omega arith))
-        ∙ ap (goingOn j) (rows-none (take 52 xs) 52 (rw length-take (omega arith))) ∙ either-way (eqb (j .number) 0) j ∙ first-52 s xs
+        let j = judgedFirst s (nextLine xs) in
+        ap (judgedAfter (refused s 0 0)) (lines-one xs h) ∙ either-way (eqb (j .number) 0) j ∙ first-own s xs
     by false w = first-beyond s xs w refl
 
 pub step-first : (s : State) (xs : List ℕ) → 0 < length xs → stepAt s xs ≡ readBy (take 50 xs) (judgedFirst s xs .code) (judgedFirst s xs)
@@ -94,12 +93,12 @@ refused-line {s} (beyond w) e n = absurd (n refl)
 refused-line {s} (halted w c n z) e m = within-line s w
 refused-line (moved w k c a f) e n = absurd (let z : _≡_ {A = ℕ} 0 1 = cc in omega arith)
 
-module _ {p : List ℕ} {j : Judged} (s : State) (xs : List ℕ) (h : length xs ≡ 0 → ⊥) (d : p ≡ take 52 xs) (e : j ≡ linesOf s p) where
+module _ {p : List ℕ} {j : Judged} (s : State) (xs : List ℕ) (h : length xs ≡ 0 → ⊥) (d : p ≡ nextLine xs) (e : j ≡ judgedLines s p) where
   some : 0 < length xs
   some = omega arith
 
   is-first : j ≡ judgedFirst s xs
-  is-first = e ∙ ap (linesOf s) d ∙ lines-first s xs some
+  is-first = e ∙ ap (judgedLines s) d ∙ one-line s xs some
 
   by-first : First s xs j
   by-first = subst (First s xs) (sym is-first) (first s xs)
@@ -137,18 +136,18 @@ unfolding pick
 either-named true i j a b = a
 either-named false i j a b = b
 
-lines-named : (j : Judged) (lines : List (List ℕ)) → Named j → Named (linesBy j lines)
-unfolding linesBy
+lines-named : (j : Judged) (lines : List (List ℕ)) → Named j → Named (judgedAfter j lines)
+unfolding judgedAfter
 lines-named j [] p = p
 lines-named j (line ∷ lines) p =
     let i = judgedFirst (j .next) line in
     let n = first-named (first (j .next) line) in
-    either-named (eqb (i .number) 0) (linesBy i lines) i (lines-named i lines n) n
+    either-named (eqb (i .number) 0) (judgedAfter i lines) i (lines-named i lines n) n
 
-module _ {j : Judged} (s : State) (xs : List ℕ) (e : j ≡ linesOf s xs) where
+module _ {j : Judged} (s : State) (xs : List ℕ) (e : j ≡ judgedLines s xs) where
   is-named : Named j
-  unfolding linesOf
-  is-named = subst Named (sym e) (either-named (within s) (linesBy (refused s 0 0) (rows xs)) (refused s 0 24) (lines-named (refused s 0 0) (rows xs) (λ z n. absurd (z refl))) (λ z n. absurd (n refl)))
+  unfolding judgedLines
+  is-named = subst Named (sym e) (either-named (within s) (judgedAfter (refused s 0 0) (linesIn xs)) (refused s 0 24) (lines-named (refused s 0 0) (linesIn xs) (λ z n. absurd (z refl))) (λ z n. absurd (n refl)))
 
   pub rest-named : (j .number ≡ 0 → ⊥) → refusalLine (j .number) (j .next .line) ≤ 6999369996
   rest-named z = name-small (j .number) (j .next .line) (is-named z)

@@ -11,9 +11,11 @@ use Rattle.machine.specs.Lists.{pick}
 use Rattle.machine.proofs.Base.{and-second, true≢false}
 use Rattle.format.specs.Records.{amount}
 use Rattle.format.specs.Rules.{maxFixed, maxDescriptions, mostDescriptions}
+use Rattle.format.specs.Cutting.{cutOf}
 use Rattle.format.specs.declared.Kind.{Kind}
 use Rattle.format.specs.declared.Kind.the-variants.{FileHeader, BatchHeaderB, BatchHeaderC, FixedDescription, OrderingParty, Transaction, NamePayer, CityPayer, PaymentReference, Description, NameBeneficiary, CityBeneficiary, BatchTrailer, FileTrailer}
 use Rattle.format.specs.declared.Code.{Code}
+use Rattle.format.specs.declared.Cut.{Cut}
 use Rattle.format.specs.declared.Code.the-variants.{Of, Unknown}
 use Rattle.record.specs.Kinds.{isTransaction, codeOf}
 use Rattle.record.specs.Faults.{fieldsOf, maximaFault, faultOf, otherFault}
@@ -29,7 +31,7 @@ use Rattle.record.proofs.ItemFaults.{transaction-read, transaction-refused, tra
 use Rattle.reading.specs.State.{Limited, within}
 use Rattle.reading.specs.Bounds.{Bounded}
 use Rattle.reading.specs.Order.{isStage, mayFix, mayText, mayDescribe, allowed}
-use Rattle.reading.specs.Step.{nextFor, paid, refused, taken, judgedBy, judgedAs, judgedKind, judgedCode, judgedLine, isWhole, isDone, judgedFirst}
+use Rattle.reading.specs.Step.{nextFor, paid, refused, taken, judgedBy, judgedAs, judgedKind, judgedCode, judgedLine, isDone, judgedFirst}
 use Rattle.reading.specs.declared.Stage.the-variants.{Opened}
 use Rattle.reading.specs.declared.State.{State}
 use Rattle.reading.specs.declared.Judged.{Judged}
@@ -120,12 +122,12 @@ module _ (s : State) (xs : List ℕ) where
     unfolding judgedFirst pick
     first-done t h = rw (w, ← e, t) h
 
-    module _ (t : d ≡ false) {b : Bool} (i : b ≡ isWhole xs) where
-      pub first-line : {x : Judged} {p : List ℕ} → b ≡ true → p ≡ take 50 xs → x ≡ judgedLine s p → x ≡ judgedFirst s xs
+    module _ (t : d ≡ false) {k : Cut} (i : k ≡ cutOf xs) where
+      pub first-line : {x : Judged} {p : List ℕ} → k .whole ≡ true → p ≡ take 50 xs → x ≡ judgedLine s p → x ≡ judgedFirst s xs
       unfolding judgedFirst pick
       first-line u q h = rw (w, ← e, t, ← i, u) (h ∙ ap (judgedLine s) q)
 
-      pub first-broken : {x : Judged} → b ≡ false → x ≡ refused s 0 1 → x ≡ judgedFirst s xs
+      pub first-broken : {x : Judged} → k .whole ≡ false → x ≡ refused s 0 1 → x ≡ judgedFirst s xs
       unfolding judgedFirst pick
       first-broken u h = rw (w, ← e, t, ← i, u) h
 

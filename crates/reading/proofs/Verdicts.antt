@@ -9,6 +9,7 @@ use lib.ListN.{take}
 use lib.Dec.{eqb}
 use Rattle.machine.specs.Lists.{pick}
 use Rattle.format.specs.Records.{Fields}
+use Rattle.format.specs.Cutting.{cutOf}
 use Rattle.format.specs.declared.Kind.{Kind}
 use Rattle.format.specs.declared.Kind.the-variants.{FileHeader, BatchHeaderB, BatchHeaderC, FixedDescription, OrderingParty, Transaction, NamePayer, CityPayer, PaymentReference, Description, NameBeneficiary, CityBeneficiary, BatchTrailer, FileTrailer}
 use Rattle.format.specs.declared.Code.{Code}
@@ -18,7 +19,7 @@ use Rattle.record.specs.Faults.{fieldsOf, faultOf}
 use Rattle.record.specs.declared.Fault.{Fault}
 use Rattle.reading.specs.State.{within}
 use Rattle.reading.specs.Order.{allowed}
-use Rattle.reading.specs.Step.{nextFor, refused, taken, judgedAs, judgedKind, judgedCode, judgedLine, isWhole, isDone, judgedFirst}
+use Rattle.reading.specs.Step.{nextFor, refused, taken, judgedAs, judgedKind, judgedCode, judgedLine, isDone, judgedFirst}
 use Rattle.reading.specs.declared.State.{State}
 use Rattle.reading.specs.declared.Judged.{Judged}
 
@@ -82,11 +83,11 @@ first s xs = by (within s) refl
     whole w true = of-verdict w (verdict s (take 50 xs))
     whole w false = halted w 0 1 (λ e. omega arith)
 
-    done : within s ≡ true → (q : Bool) → First s xs (pick q (refused s 0 11) (pick (isWhole xs) (judgedLine s (take 50 xs)) (refused s 0 1)))
+    done : within s ≡ true → (q : Bool) → First s xs (pick q (refused s 0 11) (pick (cutOf xs .whole) (judgedLine s (take 50 xs)) (refused s 0 1)))
     done w true = halted w 0 11 (λ e. omega arith)
-    done w false = whole w (isWhole xs)
+    done w false = whole w (cutOf xs .whole)
 
-    by : (q : Bool) → within s ≡ q → First s xs (pick q (pick (isDone s) (refused s 0 11) (pick (isWhole xs) (judgedLine s (take 50 xs)) (refused s 0 1))) (refused s 0 24))
+    by : (q : Bool) → within s ≡ q → First s xs (pick q (pick (isDone s) (refused s 0 11) (pick (cutOf xs .whole) (judgedLine s (take 50 xs)) (refused s 0 1))) (refused s 0 24))
     by true w = done w (isDone s)
     by false w = beyond w
 
@@ -95,16 +96,16 @@ first s xs = by (within s) refl
 pub record Taken (s : State) (xs : List ℕ) : Type 0 where
   pub limits : within s ≡ true
   pub unended : isDone s ≡ false
-  pub whole : isWhole xs ≡ true
+  pub whole : cutOf xs .whole ≡ true
   pub kind : Kind
   pub coded : codeOf (take 5 (take 50 xs)) ≡ Of kind
   pub placed : allowed s kind ≡ true
   pub faultless : faultOf (s .before) (s .batch) kind (take 50 xs) .number ≡ 0
   pub is : judgedFirst s xs ≡ taken kind (nextFor s kind (fieldsOf kind (take 50 xs)))
 
-parts : (s : State) (xs : List ℕ) → judgedFirst s xs .number ≡ 0 → (isDone s ≡ false) × (isWhole xs ≡ true)
+parts : (s : State) (xs : List ℕ) → judgedFirst s xs .number ≡ 0 → (isDone s ≡ false) × (cutOf xs .whole ≡ true)
 unfolding judgedFirst pick
-parts s xs z = on (within s) (isDone s) (isWhole xs) z
+parts s xs z = on (within s) (isDone s) (cutOf xs .whole) z
   where
     on : (a b c : Bool) → pick a (pick b (refused s 0 11) (pick c (judgedLine s (take 50 xs)) (refused s 0 1))) (refused s 0 24) .number ≡ 0 → (b ≡ false) × (c ≡ true)
     on true true c z = absurd (omega arith)
@@ -112,7 +113,7 @@ parts s xs z = on (within s) (isDone s) (isWhole xs) z
     on true false false z = absurd (omega arith)
     on false b c z = absurd (omega arith)
 
-of-first : (s : State) (xs : List ℕ) (j : Judged) → First s xs j → judgedFirst s xs ≡ j → (isDone s ≡ false) × (isWhole xs ≡ true) → j .number ≡ 0 → Taken s xs
+of-first : (s : State) (xs : List ℕ) (j : Judged) → First s xs j → judgedFirst s xs ≡ j → (isDone s ≡ false) × (cutOf xs .whole ≡ true) → j .number ≡ 0 → Taken s xs
 of-first s xs j (beyond w) e p z = absurd (omega arith)
 of-first s xs j (halted w c n y) e p z = absurd (y z)
 of-first s xs j (moved w k c a f) e p z = record { limits = w; unended = p .0; whole = p .1; kind = k; coded = c; placed = a; faultless = f; is = e }

@@ -4,7 +4,7 @@ use mathlib.Core.List.{List, [], _∷_}
 use lib.Dec.{eqb}
 use Rattle.machine.specs.Lists.{pick}
 use Rattle.format.specs.Answers.{accepted, beyondLimits}
-use Rattle.format.specs.Cutting.{rows}
+use Rattle.format.specs.Cutting.{linesIn}
 use Rattle.format.specs.declared.Answer.{Answer}
 use Rattle.reading.specs.State.{startState, within}
 use Rattle.reading.specs.Step.{refused, judgedFirst, refusalBy, endedAt}
@@ -12,22 +12,22 @@ use Rattle.reading.specs.declared.State.{State}
 use Rattle.reading.specs.declared.Judged.{Judged}
 
 -- lines one after the other up to the first that is refused, after j
-unfoldable pub linesBy : Judged → List (List ℕ) → Judged
-linesBy j [] = j
-linesBy j (line ∷ lines) =
+unfoldable pub judgedAfter : Judged → List (List ℕ) → Judged
+judgedAfter j [] = j
+judgedAfter j (line ∷ lines) =
     let first = judgedFirst (j .next) line in
-    pick (eqb (first .number) 0) (linesBy first lines) first
+    pick (eqb (first .number) 0) (judgedAfter first lines) first
 
 -- where nothing is refused, the last line's code and the state after it; of no bytes, the state as it was
-unfoldable pub linesOf : State → List ℕ → Judged
-linesOf s xs = pick (within s) (linesBy (refused s 0 accepted) (rows xs)) (refused s 0 beyondLimits)
+unfoldable pub judgedLines : State → List ℕ → Judged
+judgedLines s xs = pick (within s) (judgedAfter (refused s 0 accepted) (linesIn xs)) (refused s 0 beyondLimits)
 
 abbrev pub answerBy : Judged → Answer
 answerBy j = pick (eqb (j .number) 0) (endedAt (j .next)) (refusalBy j)
 
 -- what the bytes that remain of a file are answered, its end included
 unfoldable pub restOf : State → List ℕ → Answer
-restOf s xs = answerBy (linesOf s xs)
+restOf s xs = answerBy (judgedLines s xs)
 
 unfoldable pub checkOf : List ℕ → Answer
 checkOf file = restOf startState file

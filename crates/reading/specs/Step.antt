@@ -1,13 +1,14 @@
 -- What a line is answered, from every state: the answer, the state after it, and the record handed out.
 use Prim.Native.Nat.{ℕ, _+_}
 use mathlib.Core.List.{List, [], _∷_}
-use mathlib.Core.Bool.{Bool, true, false, _&&_}
-use lib.ListN.{length, getD, take}
-use lib.Dec.{leb, eqb}
+use mathlib.Core.Bool.{Bool, true, false}
+use lib.ListN.{take}
+use lib.Dec.{eqb}
 use Rattle.machine.specs.Lists.{pick}
 use Rattle.format.specs.Records.{Fields, group, orderingAccount, sequence, unidentified}
 use Rattle.format.specs.Rules.{groupOf, needsName}
 use Rattle.format.specs.Language.{tenDigits}
+use Rattle.format.specs.Cutting.{cutOf}
 use Rattle.format.specs.Answers.{accepted, brokenLine, unknownRecord, misplacedRecord, endsEarly, afterTrailer, beyondLimits, refusal, acceptance}
 use Rattle.format.specs.declared.Answer.{Answer}
 use Rattle.format.specs.declared.Kind.{Kind}
@@ -141,10 +142,6 @@ judgedCode s line Unknown = refused s 1 unknownRecord
 unfoldable pub judgedLine : State → List ℕ → Judged
 judgedLine s line = judgedCode s line (codeOf (take 5 line))
 
--- 50 characters, 13 and 10
-unfoldable pub isWhole : List ℕ → Bool
-isWhole xs = leb 52 (length xs) && (eqb (getD xs 50 0) 13 && eqb (getD xs 51 0) 10)
-
 abbrev pub isDone : State → Bool
 isDone s = isStage (s .stage) Done
 
@@ -153,7 +150,7 @@ unfoldable pub judgedFirst : State → List ℕ → Judged
 judgedFirst s xs =
     pick (within s)
     (pick (isDone s) (refused s 0 afterTrailer)
-    (pick (isWhole xs) (judgedLine s (take 50 xs))
+    (pick (cutOf xs .whole) (judgedLine s (take 50 xs))
     (refused s 0 brokenLine)))
     (refused s 0 beyondLimits)
 

@@ -2,19 +2,21 @@
 ghost use mathlib.Core.Path.{_≡_};
 ghost use mathlib.Core.Bool.{false};
 ghost use Prim.Native.Nat.{_≤_};
-ghost use Rattle.format.specs.Cutting.{rows};
+ghost use Rattle.format.specs.Cutting.{linesIn};
 ghost use Rattle.format.specs.declared.Kind.the-variants.{Transaction};
 ghost use Rattle.reading.specs.State.{Limited, maxLine, isLimited, within};
 ghost use Rattle.record.specs.Kinds.{isTransaction};
-ghost use Rattle.reading.specs.Step.{refused, judgedAs, judgedKind, judgedLine, isWhole, judgedFirst};
-ghost use Rattle.reading.specs.Check.{linesBy, linesOf};
+ghost use Rattle.reading.specs.Step.{refused, judgedAs, judgedKind, judgedLine, judgedFirst};
+ghost use Rattle.reading.specs.Check.{judgedAfter, judgedLines};
 use crate::Judged;
 use crate::Stage;
 use crate::State;
 use crate::order::is_stage;
+use field::bytes::next_line;
 use field::bytes::part;
 use format::Code;
 use format::Kind;
+use format::cut_of;
 use record::Batch;
 use record::faults::fault_in;
 use record::faults::item::maxima_fault;
@@ -40,15 +42,6 @@ fn is_transaction(k: Kind) -> bool
         Kind::BatchTrailer => false,
         Kind::FileTrailer => false,
     }
-}
-
-fn is_whole(rest: &[u8]) -> bool
-    ensures { λ r. ⌜ r ≡ isWhole (now (rest .entry)) ⌝ }
-{
-    if rest.len() < 52 {
-        return false;
-    }
-    (rest[50] == 13) & (rest[51] == 10)
 }
 
 impl State {
@@ -152,7 +145,8 @@ impl State {
         if is_stage(stage, Stage::Done) {
             return self.refused(format::AFTER_TRAILER, 0);
         }
-        if is_whole(rest) {
+        let cut = cut_of(rest);
+        if cut.whole {
             self.judge(part(rest, 0, 50))
         } else {
             self.refused(format::BROKEN_LINE, 0)
@@ -163,7 +157,7 @@ impl State {
 impl State {
     // All lines of some bytes, up to the first that is refused.
     pub(crate) fn lines(self, bytes: &[u8]) -> Judged
-        ensures { λ r. ⌜ r ≡ linesOf self (now (bytes .entry)) ⌝ }
+        ensures { λ r. ⌜ r ≡ judgedLines self (now (bytes .entry)) ⌝ }
     {
         if is_within(self) {
             run(self, bytes)
@@ -201,16 +195,17 @@ fn is_limited(s: State) -> bool
 
 fn run(start: State, bytes: &[u8]) -> Judged
     requires { ⌜ Limited start ⌝ }
-    ensures { λ r. ⌜ r ≡ linesBy (refused start 0 0) (rows (now (bytes .entry))) ⌝ }
+    ensures { λ r. ⌜ r ≡ judgedAfter (refused start 0 0) (linesIn (now (bytes .entry))) ⌝ }
 {
     let mut last = start.refused(0, 0);
     let mut at = 0;
     while at < bytes.len() {
-        last = last.then(part(bytes, at, 52));
+        let line = next_line(bytes, at);
+        last = last.then(line);
         if last.number != 0 {
             return last;
         }
-        at += 52;
+        at += line.len();
     }
     last
 }

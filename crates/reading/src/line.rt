@@ -8,6 +8,7 @@ use crate::Stage;
 use crate::State;
 use crate::judge::is_within;
 use crate::order::is_stage;
+use field::bytes::next_line;
 use field::bytes::part;
 use format::Answer;
 use format::Code;
@@ -61,7 +62,7 @@ impl State {
             return self.nothing_read(self.ended());
         }
         let line = part(rest, 0, 50);
-        let j = self.lines(part(rest, 0, 52));
+        let j = self.lines(next_line(rest, 0));
         let next = j.next;
         let code = j.code;
         match code {

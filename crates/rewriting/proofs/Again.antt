@@ -1,5 +1,5 @@
 -- A file without its cities is accepted again, and is what the writer writes. Assumes nothing.
-use Prim.Native.Nat.{ℕ, zero, suc, _+_}
+use Prim.Native.Nat.{ℕ, _+_}
 use mathlib.Core.Path.{_≡_, refl, sym, ap, ap₂, _∙_, subst}
 use mathlib.Core.List.{List, [], _∷_, _++_}
 use mathlib.Core.Bool.{Bool, true, false, not, _&&_}
@@ -7,13 +7,13 @@ use mathlib.Core.Option.{Option, none, some}
 use native.Mathlib.Omega.{arith}
 use borrow.Author.Tests.{eq-eqb, eqb-true}
 use lib.ListN.{length, take, drop, take-append-drop}
-use lib.Seq.{take-at, length-take-le}
+use lib.Seq.{take-at}
 use lib.Dec.{T, eqb}
 use Rattle.machine.specs.Lists.{pick, placed}
 use Rattle.machine.proofs.Base.{true≢false}
 use Rattle.format.specs.Answers.{refusal, acceptance}
 use Rattle.format.specs.declared.Answer.{Answer}
-use Rattle.format.specs.Cutting.{rowsFrom, rows}
+use Rattle.format.specs.Cutting.{cutOf, nextLine, afterNext, linesFrom, linesIn}
 use Rattle.format.specs.Records.{type, amount, payer, beneficiary}
 use Rattle.format.specs.Rules.{typeOf, isType}
 use Rattle.format.specs.declared.Kind.{Kind}
@@ -21,7 +21,7 @@ use Rattle.format.specs.declared.Kind.the-variants.{FileHeader, BatchHeaderB, B
 use Rattle.format.specs.declared.Code.the-variants.{Of}
 use Rattle.format.specs.declared.TypeRead.{TypeRead}
 use Rattle.format.specs.declared.TypeRead.the-variants as types
-use Rattle.format.proofs.ByRows.{rows-line}
+use Rattle.format.proofs.Cutting.{Lined, no-line, one-line, lined, lines-whole}
 use Rattle.field.proofs.Putting.{placed-front}
 use Rattle.record.specs.Faults.{fieldsOf, faultOf}
 use Rattle.record.specs.Read.{itemOf, recordFor}
@@ -30,12 +30,12 @@ use Rattle.record.specs.declared.Batch.{Batch}
 use Rattle.record.proofs.ItemFaults.{type-known}
 use Rattle.reading.specs.State.{startState, isLimited, within}
 use Rattle.reading.specs.Step.{nextFor, refused, taken, isDone, judgedFirst, refusalBy, readBy, endedAt, stepAt}
-use Rattle.reading.specs.Check.{linesBy, linesOf, answerBy, checkOf, restOf}
+use Rattle.reading.specs.Check.{judgedAfter, judgedLines, answerBy, checkOf, restOf}
 use Rattle.reading.specs.declared.Name.the-variants.{Unwanted}
 use Rattle.reading.specs.declared.State.{State}
 use Rattle.reading.specs.declared.Judged.{Judged}
 use Rattle.reading.specs.declared.LineRead.{LineRead}
-use Rattle.reading.proofs.Running.{whole-long, first-52, goingOn}
+use Rattle.reading.proofs.Running.{first-own, goingOn}
 use Rattle.reading.proofs.Verdicts.{Taken, takes}
 use Rattle.writer.specs.Entries.{lineFor}
 use Rattle.writer.specs.Writing.{answered, writtenOf}
@@ -54,55 +54,47 @@ use Rattle.rewriting.proofs.Behind.{isCityKind, Behind, alike, within-b
 -- ## The same file
 
 -- a file without cities stays
-no-city : (k : ℕ) (xs : List ℕ) → noCity (rowsFrom k xs) ≡ true → keptOf (rowsFrom k xs) ≡ drop k xs
-unfolding noCity keptOf keptLine pick rowsFrom
-no-city zero [] h = refl
-no-city (suc k) [] h = refl
-no-city (suc k) (x ∷ xs) h = no-city k xs h
-no-city zero (x ∷ xs) h = on (isCity (take 52 (x ∷ xs))) h (λ r. no-city 51 xs r)
+no-city : {xs : List ℕ} {lines : List (List ℕ)} → Lined xs lines → noCity lines ≡ true → keptOf lines ≡ xs
+unfolding noCity keptOf keptLine pick
+no-city no-line h = refl
+no-city (one-line {x} {xs} {lines} r) h = on (isCity (nextLine (x ∷ xs))) h (λ n. no-city r n)
   where
-    on : (q : Bool) → (not q && noCity (rowsFrom 51 xs)) ≡ true → (noCity (rowsFrom 51 xs) ≡ true → keptOf (rowsFrom 51 xs) ≡ drop 51 xs) → pick q [] (take 52 (x ∷ xs)) ++ keptOf (rowsFrom 51 xs) ≡ x ∷ xs
-    on true r f = absurd (true≢false (sym r))
-    on false r f = ap (λ ys. take 52 (x ∷ xs) ++ ys) (f r) ∙ take-append-drop 52 (x ∷ xs)
+    on : (q : Bool) → (not q && noCity lines) ≡ true → (noCity lines ≡ true → keptOf lines ≡ afterNext (x ∷ xs)) → pick q [] (nextLine (x ∷ xs)) ++ keptOf lines ≡ x ∷ xs
+    on true n f = absurd (true≢false (sym n))
+    on false n f = ap (λ ys. nextLine (x ∷ xs) ++ ys) (f n) ∙ take-append-drop (cutOf (x ∷ xs) .bytes) (x ∷ xs)
 
-pub same-file : (file : List ℕ) → noCity (rows file) ≡ true → withoutCities file ≡ file
+pub same-file : (file : List ℕ) → noCity (linesIn file) ≡ true → withoutCities file ≡ file
 unfolding withoutCities
-same-file file h = no-city 0 file h
+same-file file h = no-city (lined 0 file) h
 
 -- ## Lines that are all taken
 
 abbrev nextBy : State → Kind → List ℕ → State
 nextBy s k xs = nextFor s k (fieldsOf k (take 50 xs))
 
--- bytes whose rows are lines, each taken, from one state to the last
+-- bytes whose lines are each taken, from one state to the last
 data Read : State → List ℕ → List (List ℕ) → State → Type 0 where
   no-more : {s : State} → Read s [] [] s
-  line : {s u : State} {x : ℕ} {xs : List ℕ} {lines : List (List ℕ)} (t : Taken s (x ∷ xs)) → Read (nextBy s (t .kind) (x ∷ xs)) (drop 51 xs) lines u → Read s (x ∷ xs) (take 52 (x ∷ xs) ∷ lines) u
+  line : {s u : State} {x : ℕ} {xs : List ℕ} {lines : List (List ℕ)} (t : Taken s (x ∷ xs)) → Read (nextBy s (t .kind) (x ∷ xs)) (afterNext (x ∷ xs)) lines u → Read s (x ∷ xs) (nextLine (x ∷ xs) ∷ lines) u
 
 first-zero : (f : Judged) (lines : List (List ℕ)) → goingOn f lines .number ≡ 0 → f .number ≡ 0
 unfolding pick
 first-zero f lines z = on (eqb (f .number) 0) refl z
   where
-    on : (q : Bool) → eqb (f .number) 0 ≡ q → pick q (linesBy f lines) f .number ≡ 0 → f .number ≡ 0
+    on : (q : Bool) → eqb (f .number) 0 ≡ q → pick q (judgedAfter f lines) f .number ≡ 0 → f .number ≡ 0
     on true e z = eqb-true (f .number) 0 e
     on false e z = z
 
-all-taken : (j : Judged) (k : ℕ) (xs : List ℕ) → linesBy j (rowsFrom k xs) .number ≡ 0 → Read (j .next) (drop k xs) (rowsFrom k xs) (linesBy j (rowsFrom k xs) .next)
-unfolding linesBy rowsFrom pick
-all-taken j zero [] z = no-more
-all-taken j (suc k) [] z = no-more
-all-taken j (suc k) (x ∷ xs) z = all-taken j k xs z
-all-taken j zero (x ∷ xs) z =
+all-taken : (j : Judged) {xs : List ℕ} {lines : List (List ℕ)} → Lined xs lines → judgedAfter j lines .number ≡ 0 → Read (j .next) xs lines (judgedAfter j lines .next)
+unfolding judgedAfter pick
+all-taken j no-line z = no-more
+all-taken j (one-line {x} {xs} {lines} r) z =
     let s = j .next in
-    let lines = rowsFrom 51 xs in
-    let d = first-52 s (x ∷ xs) in
-    let t = takes s (x ∷ xs) (sym (ap (λ (i : Judged). i .number) d) ∙ first-zero (judgedFirst s (take 52 (x ∷ xs))) lines z) in
+    let d = first-own s (x ∷ xs) in
+    let t = takes s (x ∷ xs) (sym (ap (λ (i : Judged). i .number) d) ∙ first-zero (judgedFirst s (nextLine (x ∷ xs))) lines z) in
     let e = d ∙ t .is in
-    subst (λ (i : Judged). Read s (x ∷ xs) (take 52 (x ∷ xs) ∷ lines) (goingOn i lines .next)) (sym e)
-    (line t (all-taken (taken (t .kind) (nextBy s (t .kind) (x ∷ xs))) 51 xs (subst (λ (i : Judged). goingOn i lines .number ≡ 0) e z)))
-
-kept-row : {s : State} {xs : List ℕ} (rest : List ℕ) → Taken s xs → rows (take 52 xs ++ rest) ≡ take 52 xs ∷ rows rest
-kept-row {s} {xs} rest t = rows-line (take 52 xs) rest (length-take-le 52 xs (whole-long xs (t .whole)))
+    subst (λ (i : Judged). Read s (x ∷ xs) (nextLine (x ∷ xs) ∷ lines) (goingOn i lines .next)) (sym e)
+    (line t (all-taken (taken (t .kind) (nextBy s (t .kind) (x ∷ xs))) r (subst (λ (i : Judged). goingOn i lines .number ≡ 0) e z)))
 
 -- ## Accepted again
 
@@ -110,20 +102,20 @@ record Follows (s : State) (i : Judged) : Type 0 where
   pub number : i .number ≡ 0
   pub next : Behind s (i .next)
 
-module _ {s : State} {xs : List ℕ} (t : Taken s xs) (i : Judged) (p : Follows s i) (rest : List ℕ) (u : State) (f : (v : Judged) → Follows (nextBy s (t .kind) xs) v → Follows u (linesBy v (rows rest))) where
-  line-on : (q : Bool) → isCity (take 52 xs) ≡ q → Follows u (linesBy i (rows (pick q [] (take 52 xs) ++ rest)))
-  unfolding linesBy pick
+module _ {s : State} {xs : List ℕ} (t : Taken s xs) (i : Judged) (p : Follows s i) (rest : List ℕ) (u : State) (f : (v : Judged) → Follows (nextBy s (t .kind) xs) v → Follows u (judgedAfter v (linesIn rest))) where
+  line-on : (q : Bool) → isCity (nextLine xs) ≡ q → Follows u (judgedAfter i (linesIn (pick q [] (nextLine xs) ++ rest)))
+  unfolding judgedAfter pick
   line-on true e = f i (record { number = p .number; next = behind-city (p .next) t (sym (city-kind xs t) ∙ e) })
   line-on false e =
       let c = sym (city-kind xs t) ∙ e in
-      subst (λ lines. Follows u (linesBy i lines)) (sym (kept-row rest t))
-      (subst (λ (v : Judged). Follows u (goingOn v (rows rest))) (sym (first-52 (i .next) xs ∙ taken-too (p .next) t c))
+      subst (λ lines. Follows u (judgedAfter i lines)) (sym (lines-whole xs rest (t .whole)))
+      (subst (λ (v : Judged). Follows u (goingOn v (linesIn rest))) (sym (first-own (i .next) xs ∙ taken-too (p .next) t c))
       (f (taken (t .kind) (nextBy (i .next) (t .kind) xs)) (record { number = refl; next = behind-too (p .next) t c })))
 
-follows : {s u : State} {xs : List ℕ} {lines : List (List ℕ)} → Read s xs lines u → (i : Judged) → Follows s i → Follows u (linesBy i (rows (keptOf lines)))
-unfolding linesBy rowsFrom keptOf keptLine
+follows : {s u : State} {xs : List ℕ} {lines : List (List ℕ)} → Read s xs lines u → (i : Judged) → Follows s i → Follows u (judgedAfter i (linesIn (keptOf lines)))
+unfolding judgedAfter linesFrom keptOf keptLine
 follows no-more i p = p
-follows {u = u} (line {x = x} {xs} {lines} t r) i p = line-on t i p (keptOf lines) u (λ v q. follows r v q) (isCity (take 52 (x ∷ xs))) refl
+follows {u = u} (line {x = x} {xs} {lines} t r) i p = line-on t i p (keptOf lines) u (λ v q. follows r v q) (isCity (nextLine (x ∷ xs))) refl
 
 -- ## The end
 
@@ -162,34 +154,34 @@ ended-behind j i e p =
 
 -- an accepted file's lines
 abbrev judged : List ℕ → Judged
-judged file = linesBy (refused startState 0 0) (rows file)
+judged file = judgedAfter (refused startState 0 0) (linesIn file)
 
 ended-file : (file : List ℕ) → checkOf file .number ≡ 0 → Ended (judged file)
-unfolding checkOf restOf linesOf within isLimited pick
+unfolding checkOf restOf judgedLines within isLimited pick
 ended-file file z = ends (judged file) z
 
-all-read : (file : List ℕ) → checkOf file .number ≡ 0 → Read startState file (rows file) (judged file .next)
-all-read file z = all-taken (refused startState 0 0) 0 file (ended-file file z .number)
+all-read : (file : List ℕ) → checkOf file .number ≡ 0 → Read startState file (linesIn file) (judged file .next)
+all-read file z = all-taken (refused startState 0 0) (lined 0 file) (ended-file file z .number)
 
 pub accepted-again : (file : List ℕ) → checkOf file .number ≡ 0 → checkOf (withoutCities file) .number ≡ 0
-unfolding checkOf restOf linesOf within isLimited pick withoutCities
+unfolding checkOf restOf judgedLines within isLimited pick withoutCities
 accepted-again file z =
     let p = follows (all-read file z) (refused startState 0 0) (record { number = refl; next = start-behind }) in
-    ended-zero (judged (keptOf (rows file))) (ended-behind (judged file) (judged (keptOf (rows file))) (ended-file file z) p)
+    ended-zero (judged (keptOf (linesIn file))) (ended-behind (judged file) (judged (keptOf (linesIn file))) (ended-file file z) p)
 
 -- ## No city is left
 
-none-line : {s : State} {xs : List ℕ} (rest : List ℕ) → Taken s xs → (q : Bool) → isCity (take 52 xs) ≡ q → noCity (rows rest) ≡ true → noCity (rows (pick q [] (take 52 xs) ++ rest)) ≡ true
+none-line : {s : State} {xs : List ℕ} (rest : List ℕ) → Taken s xs → (q : Bool) → isCity (nextLine xs) ≡ q → noCity (linesIn rest) ≡ true → noCity (linesIn (pick q [] (nextLine xs) ++ rest)) ≡ true
 unfolding noCity pick
 none-line rest t true e r = r
-none-line rest t false e r = ap noCity (kept-row rest t) ∙ ap₂ (λ p q. not p && q) e r
+none-line {xs = xs} rest t false e r = ap noCity (lines-whole xs rest (t .whole)) ∙ ap₂ (λ p q. not p && q) e r
 
-none-left : {s u : State} {xs : List ℕ} {lines : List (List ℕ)} → Read s xs lines u → noCity (rows (keptOf lines)) ≡ true
-unfolding keptOf keptLine rowsFrom noCity
+none-left : {s u : State} {xs : List ℕ} {lines : List (List ℕ)} → Read s xs lines u → noCity (linesIn (keptOf lines)) ≡ true
+unfolding keptOf keptLine linesFrom noCity
 none-left no-more = refl
-none-left (line {x = x} {xs} {lines} t r) = none-line (keptOf lines) t (isCity (take 52 (x ∷ xs))) refl (none-left r)
+none-left (line {x = x} {xs} {lines} t r) = none-line (keptOf lines) t (isCity (nextLine (x ∷ xs))) refl (none-left r)
 
-pub without-cities : (file : List ℕ) → checkOf file .number ≡ 0 → noCity (rows (withoutCities file)) ≡ true
+pub without-cities : (file : List ℕ) → checkOf file .number ≡ 0 → noCity (linesIn (withoutCities file)) ≡ true
 unfolding withoutCities
 without-cities file z = none-left (all-read file z)
 
@@ -242,12 +234,12 @@ wrote : (w : State) (e : Entry) (t : List ℕ) (r : LineRead) → stepAt w (line
 unfolding writtenOf pick
 wrote w e t r h z = rw (h, eq-eqb (r .answer .number) 0 z)
 
-module _ {s : State} {x : ℕ} {xs : List ℕ} (tk : Taken s (x ∷ xs)) (w : State) (b : Behind s w) (rest : List ℕ) (f : (u : State) → Behind (nextBy s (tk .kind) (x ∷ xs)) u → Rewrites (nextBy s (tk .kind) (x ∷ xs)) u (drop 51 xs) rest) where
+module _ {s : State} {x : ℕ} {xs : List ℕ} (tk : Taken s (x ∷ xs)) (w : State) (b : Behind s w) (rest : List ℕ) (f : (u : State) → Behind (nextBy s (tk .kind) (x ∷ xs)) u → Rewrites (nextBy s (tk .kind) (x ∷ xs)) u (afterNext (x ∷ xs)) rest) where
   read-s : stepAt s (x ∷ xs) ≡ readAs s (tk .kind) (x ∷ xs)
   read-s = step-as s x xs (tk .kind) (tk .is)
 
-  after : (u : State) → Behind (nextBy s (tk .kind) (x ∷ xs)) u → Rewrites (stepAt s (x ∷ xs) .next) u (drop 51 xs) rest
-  after u c = subst (λ (r : LineRead). Rewrites (r .next) u (drop 51 xs) rest) (sym read-s) (f u c)
+  after : (u : State) → Behind (nextBy s (tk .kind) (x ∷ xs)) u → Rewrites (stepAt s (x ∷ xs) .next) u (afterNext (x ∷ xs)) rest
+  after u c = subst (λ (r : LineRead). Rewrites (r .next) u (afterNext (x ∷ xs)) rest) (sym read-s) (f u c)
 
   module _ (c : isCityKind (tk .kind) ≡ false) where
     read-w : stepAt w (x ∷ xs) ≡ readAs w (tk .kind) (x ∷ xs)
@@ -256,7 +248,7 @@ module _ {s : State} {x : ℕ} {xs : List ℕ} (tk : Taken s (x ∷ xs)) (w : St
     entry : (e : Entry) × (entryOf (recordFor (tk .kind) (fieldsOf (tk .kind) (take 50 (x ∷ xs)))) ≡ some e)
     entry = the-entry (entryOf (recordFor (tk .kind) (fieldsOf (tk .kind) (take 50 (x ∷ xs))))) (has-entry (s .before) (s .batch) (tk .kind) (take 50 (x ∷ xs)) (tk .faultless) ∙ ap not c)
 
-    line-is : take 52 (x ∷ xs) ≡ lineFor w (entry .0) (stepAt s (x ∷ xs) .text)
+    line-is : nextLine (x ∷ xs) ≡ lineFor w (entry .0) (stepAt s (x ∷ xs) .text)
     line-is =
         written-again w (x ∷ xs) (omega arith) (ap (λ (r : LineRead). r .answer .number) read-w) (entry .0) (ap (λ (r : LineRead). entryOf (r .read)) read-w ∙ entry .1)
         ∙ ap (lineFor w (entry .0)) (ap (λ (r : LineRead). r .text) read-w ∙ sym (ap (λ (r : LineRead). r .text) read-s))
@@ -264,13 +256,13 @@ module _ {s : State} {x : ℕ} {xs : List ℕ} (tk : Taken s (x ∷ xs)) (w : St
     writer-is : writtenOf w (entry .0) (stepAt s (x ∷ xs) .text) 52 ≡ answered (readAs w (tk .kind) (x ∷ xs) .answer) (readAs w (tk .kind) (x ∷ xs) .next)
     writer-is = wrote w (entry .0) (stepAt s (x ∷ xs) .text) (readAs w (tk .kind) (x ∷ xs)) (ap (stepAt w) (sym line-is) ∙ step-front w (x ∷ xs) ∙ read-w) refl
 
-    kept-written : Rewrites s w (x ∷ xs) (take 52 (x ∷ xs) ++ rest)
+    kept-written : Rewrites s w (x ∷ xs) (nextLine (x ∷ xs) ++ rest)
     kept-written =
         subst (λ l. Rewrites s w (x ∷ xs) (l ++ rest)) (sym line-is)
         (written (entry .0) (ap (λ (r : LineRead). r .answer .number) read-s) (ap (λ (r : LineRead). entryOf (r .read)) read-s ∙ entry .1) (ap (λ (v : Written). v .answer .number) writer-is)
-        (subst (λ (v : Written). Rewrites (stepAt s (x ∷ xs) .next) (v .next) (drop 51 xs) rest) (sym writer-is) (after (nextBy w (tk .kind) (x ∷ xs)) (behind-too b tk c))))
+        (subst (λ (v : Written). Rewrites (stepAt s (x ∷ xs) .next) (v .next) (afterNext (x ∷ xs)) rest) (sym writer-is) (after (nextBy w (tk .kind) (x ∷ xs)) (behind-too b tk c))))
 
-  line-written : (q : Bool) → isCity (take 52 (x ∷ xs)) ≡ q → Rewrites s w (x ∷ xs) (pick q [] (take 52 (x ∷ xs)) ++ rest)
+  line-written : (q : Bool) → isCity (nextLine (x ∷ xs)) ≡ q → Rewrites s w (x ∷ xs) (pick q [] (nextLine (x ∷ xs)) ++ rest)
   unfolding pick
   line-written true e =
       let c = sym (city-kind (x ∷ xs) tk) ∙ e in
@@ -281,7 +273,7 @@ module _ {s : State} {x : ℕ} {xs : List ℕ} (tk : Taken s (x ∷ xs)) (w : St
 rewrites : {s u : State} {xs : List ℕ} {lines : List (List ℕ)} → Read s xs lines u → (w : State) → Behind s w → Rewrites s w xs (keptOf lines)
 unfolding keptOf keptLine
 rewrites {s} no-more w b = ended s w
-rewrites (line {x = x} {xs} {lines} t r) w b = line-written t w b (keptOf lines) (λ v c. rewrites r v c) (isCity (take 52 (x ∷ xs))) refl
+rewrites (line {x = x} {xs} {lines} t r) w b = line-written t w b (keptOf lines) (λ v c. rewrites r v c) (isCity (nextLine (x ∷ xs))) refl
 
 pub by-writer : (file : List ℕ) → checkOf file .number ≡ 0 → Rewrites startState startState file (withoutCities file)
 unfolding withoutCities

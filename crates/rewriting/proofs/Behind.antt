@@ -12,18 +12,20 @@ use Rattle.machine.specs.Lists.{pick, same}
 use Rattle.machine.proofs.Base.{and-second, true≢false}
 use Rattle.format.specs.Records.{Fields, code}
 use Rattle.format.specs.Rules.{mostDescriptions, sameGroup, needsName}
+use Rattle.format.specs.Cutting.{cutOf, nextLine}
 use Rattle.format.specs.declared.Kind.{Kind}
 use Rattle.format.specs.declared.Kind.the-variants.{FileHeader, BatchHeaderB, BatchHeaderC, FixedDescription, OrderingParty, Transaction, NamePayer, CityPayer, PaymentReference, Description, NameBeneficiary, CityBeneficiary, BatchTrailer, FileTrailer}
 use Rattle.format.specs.declared.Group.{Group}
 use Rattle.format.specs.declared.Group.the-variants.{Payments, Debits}
 use Rattle.format.specs.declared.Code.the-variants.{Of}
+use Rattle.format.proofs.Cutting.{cut-bytes}
 use Rattle.record.specs.Kinds.{codeOf}
 use Rattle.record.specs.Faults.{fieldsOf, faultOf}
 use Rattle.record.specs.Read.{transactionFor}
 use Rattle.record.proofs.Coding.{code-is}
 use Rattle.reading.specs.State.{isLimited, within}
 use Rattle.reading.specs.Order.{isStage, isName, mayEnd, mayPay, mayName, textsBy, mayText, mayRefer, mayDescribe, allowed}
-use Rattle.reading.specs.Step.{nameIf, afterText, nextFor, taken, judgedAs, judgedKind, judgedLine, isWhole, isDone, judgedFirst}
+use Rattle.reading.specs.Step.{nameIf, afterText, nextFor, taken, judgedAs, judgedKind, judgedLine, isDone, judgedFirst}
 use Rattle.reading.specs.declared.Stage.the-variants.{Item}
 use Rattle.reading.specs.declared.Name.{Name}
 use Rattle.reading.specs.declared.Name.the-variants.{Unwanted, Due, Read, Past}
@@ -185,7 +187,7 @@ city-behind s l n h e FileTrailer c a x = absurd (true≢false (sym c))
 
 -- ## A line taken by both
 
-judged-as : (w : State) (xs : List ℕ) → within w ≡ true → isDone w ≡ false → isWhole xs ≡ true → (k : Kind) → codeOf (take 5 (take 50 xs)) ≡ Of k → allowed w k ≡ true
+judged-as : (w : State) (xs : List ℕ) → within w ≡ true → isDone w ≡ false → cutOf xs .whole ≡ true → (k : Kind) → codeOf (take 5 (take 50 xs)) ≡ Of k → allowed w k ≡ true
     → faultOf (w .before) (w .batch) k (take 50 xs) .number ≡ 0 → judgedFirst w xs ≡ taken k (nextFor w k (fieldsOf k (take 50 xs)))
 unfolding judgedFirst judgedLine judgedKind judgedAs pick
 judged-as w xs a b c k d e f = rw (a, b, c, d, e, eq-eqb _ _ f)
@@ -223,9 +225,9 @@ city-code CityBeneficiary = refl
 city-code BatchTrailer = refl
 city-code FileTrailer = refl
 
-pub city-kind : {s : State} (xs : List ℕ) (t : Taken s xs) → isCity (take 52 xs) ≡ isCityKind (t .kind)
+pub city-kind : {s : State} (xs : List ℕ) (t : Taken s xs) → isCity (nextLine xs) ≡ isCityKind (t .kind)
 unfolding isCity
 city-kind xs t =
     ap (λ c. same c (code CityPayer) || same c (code CityBeneficiary))
-    (take-take 5 52 xs (omega arith) ∙ sym (take-take 5 50 xs (omega arith)) ∙ code-is (take 5 (take 50 xs)) (t .kind) (t .coded))
+    (take-take 5 (cutOf xs .bytes) xs (omega (arith, cut-bytes xs)) ∙ sym (take-take 5 50 xs (omega arith)) ∙ code-is (take 5 (take 50 xs)) (t .kind) (t .coded))
     ∙ city-code (t .kind)

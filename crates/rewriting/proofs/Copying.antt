@@ -6,12 +6,12 @@ use mathlib.Core.Bool.{Bool, true, false}
 use native.Mathlib.Omega.{arith}
 use borrow.Author.Needs.{needs}
 use borrow.Author.Tests.{eq-eqb, ne-eqb, le-leb, lt-leb}
-use lib.ListN.{length, take, drop, length-append, length-take, length-drop}
+use lib.ListN.{length, take, drop, length-append}
 use Rattle.machine.specs.Lists.{pick, placed, putIn}
 use Rattle.format.specs.Answers.{refusal}
-use Rattle.format.specs.Cutting.{rows}
+use Rattle.format.specs.Cutting.{nextLine, linesIn}
 use Rattle.format.specs.declared.Answer.{Answer}
-use Rattle.format.proofs.ByRows.{rows-at, rows-none}
+use Rattle.format.proofs.Cutting.{line-inside, lines-at, lines-none}
 use Rattle.field.proofs.Putting.{put-fits, put-fitting, put-long, length-placed, placed-both}
 use Rattle.record.specs.Kinds.{isCity}
 use Rattle.reading.specs.Check.{checkOf}
@@ -39,40 +39,38 @@ line-short line = by (isCity line)
     by true = omega arith
     by false = omega arith
 
-kept-none : (file : List ℕ) (i : ℕ) → length file ≤ i → keptOf (rows (drop i file)) ≡ []
+kept-none : (file : List ℕ) (i : ℕ) → length file ≤ i → keptOf (linesIn (drop i file)) ≡ []
 unfolding keptOf
-kept-none file i h = ap keptOf (rows-none file i h)
+kept-none file i h = ap keptOf (lines-none file i h)
 
 -- the line at a place of the file
-module _ {p line : List ℕ} {i : ℕ} (file : List ℕ) (h : i < length file) (e : p ≡ take 52 (drop i file)) (d : line ≡ keptLine p) where
-  kept-at : keptOf (rows (drop i file)) ≡ line ++ keptOf (rows (drop (i + 52) file))
+module _ {p line : List ℕ} {i : ℕ} (file : List ℕ) (h : i < length file) (e : p ≡ nextLine (drop i file)) (d : line ≡ keptLine p) where
+  kept-at : keptOf (linesIn (drop i file)) ≡ line ++ keptOf (linesIn (drop (i + length p) file))
   unfolding keptOf
-  kept-at = ap keptOf (rows-at file i h) ∙ ap (λ x. x ++ keptOf (rows (drop (i + 52) file))) (sym (d ∙ ap keptLine e))
+  kept-at = ap keptOf (lines-at file i h e) ∙ ap (λ x. x ++ keptOf (linesIn (drop (i + length p) file))) (sym d)
 
-  long-at : length (keptOf (rows (drop i file))) ≡ length line + length (keptOf (rows (drop (i + 52) file)))
-  long-at = ap length kept-at ∙ length-append line (keptOf (rows (drop (i + 52) file)))
+  long-at : length (keptOf (linesIn (drop i file))) ≡ length line + length (keptOf (linesIn (drop (i + length p) file)))
+  long-at = ap length kept-at ∙ length-append line (keptOf (linesIn (drop (i + length p) file)))
 
-  line-in : (length line ≤ 52) × (i + length line ≤ length file)
-  line-in =
-      let k : length line ≤ length (take 52 (drop i file)) = rw (d, e) (line-short (take 52 (drop i file))) in
-      (omega (arith, k, length-take 52 (drop i file)), omega (arith, k, length-take 52 (drop i file), length-drop i file))
+  line-in : length line ≤ length p
+  line-in = rw d (line-short p)
 
 -- ## Counting
 
 pub record Counting (file : List ℕ) (n i : ℕ) : Type 0 where
-  pub is : n + length (keptOf (rows (drop i file))) ≡ length (withoutCities file)
+  pub is : n + length (keptOf (linesIn (drop i file))) ≡ length (withoutCities file)
   pub small : n ≤ i
 
 pub count-none : (file : List ℕ) → Counting file 0 0
 unfolding withoutCities
 count-none file = record { is = omega arith; small = omega arith }
 
-module _ {file p line : List ℕ} {n i : ℕ} (c : Counting file n i) (h : i < length file) (e : p ≡ take 52 (drop i file)) (d : line ≡ keptLine p) where
-  pub count-more : Counting file (n + length line) (i + 52)
-  count-more = record { is = omega (arith, c .is, long-at file h e d); small = omega (arith, c .small, line-in file h e d .0) }
+module _ {file p line : List ℕ} {n i : ℕ} (c : Counting file n i) (h : i < length file) (e : p ≡ nextLine (drop i file)) (d : line ≡ keptLine p) where
+  pub count-more : Counting file (n + length line) (i + length p)
+  count-more = record { is = omega (arith, c .is, long-at file h e d); small = omega (arith, c .small, line-in file h e d) }
 
   pub count-fits : n + length line ≤ length file
-  count-fits = omega (arith, c .small, line-in file h e d .1)
+  count-fits = omega (arith, c .small, line-in file h e d, line-inside file i h e)
 
 pub count-all : {file : List ℕ} {n i : ℕ} → Counting file n i → length file ≤ i → n ≡ length (withoutCities file)
 count-all {file} {n} {i} c h = omega (arith, c .is, ap length (kept-none file i h))
@@ -86,7 +84,7 @@ pub record Copying (file o out : List ℕ) (at i : ℕ) : Type 0 where
   pub done : List ℕ
   pub long : length done ≡ at
   pub is : out ≡ placed o 0 done
-  pub left : done ++ keptOf (rows (drop i file)) ≡ withoutCities file
+  pub left : done ++ keptOf (linesIn (drop i file)) ≡ withoutCities file
   pub room : length (withoutCities file) ≤ length o
 
 pub copy-none : (file o : List ℕ) → length (withoutCities file) ≤ length o → Copying file o o 0 0
@@ -94,8 +92,8 @@ unfolding withoutCities placed
 copy-none file o h = record { done = []; long = refl; is = refl; left = refl; room = h }
 
 module _ {file o out : List ℕ} {at i : ℕ} (c : Copying file o out at i) where
-  done-in : at + length (keptOf (rows (drop i file))) ≤ length o
-  done-in = omega (arith, c .long, c .room, sym (length-append (c .done) (keptOf (rows (drop i file)))) ∙ ap length (c .left))
+  done-in : at + length (keptOf (linesIn (drop i file))) ≤ length o
+  done-in = omega (arith, c .long, c .room, sym (length-append (c .done) (keptOf (linesIn (drop i file)))) ∙ ap length (c .left))
 
   pub copy-kept : length out ≡ length o
   copy-kept = ap length (c .is) ∙ length-placed o 0 (c .done) (omega (arith, c .long, done-in))
@@ -103,11 +101,11 @@ module _ {file o out : List ℕ} {at i : ℕ} (c : Copying file o out at i) wher
   pub copy-all : length file ≤ i → out ≡ placed o 0 (withoutCities file)
   copy-all h = c .is ∙ ap (placed o 0) (sym (append-nil (c .done)) ∙ ap (λ r. c .done ++ r) (sym (kept-none file i h)) ∙ c .left)
 
-  module _ {p line : List ℕ} (h : i < length file) (e : p ≡ take 52 (drop i file)) (d : line ≡ keptLine p) where
+  module _ {p line : List ℕ} (h : i < length file) (e : p ≡ nextLine (drop i file)) (d : line ≡ keptLine p) where
     pub copy-sum : at + length line ≤ length o
     copy-sum = omega (arith, done-in, long-at file h e d)
 
-    pub copy-more : {out' : List ℕ} → out' ≡ putIn out at line → Copying file o out' (at + length line) (i + 52)
+    pub copy-more : {out' : List ℕ} → out' ≡ putIn out at line → Copying file o out' (at + length line) (i + length p)
     copy-more q =
         let z : 0 + length (c .done) ≡ at = omega (arith, c .long) in
         record {
@@ -117,7 +115,7 @@ module _ {file o out : List ℕ} {at i : ℕ} (c : Copying file o out at i) wher
               put-fits out at line (omega (arith, copy-sum, copy-kept)) q
               ∙ ap₂ (λ x n. placed x n line) (c .is) (sym z)
               ∙ placed-both o 0 (c .done) line (omega (arith, c .long, done-in));
-          left = append-assoc (c .done) line (keptOf (rows (drop (i + 52) file))) ∙ ap (λ x. c .done ++ x) (sym (kept-at file h e d)) ∙ c .left;
+          left = append-assoc (c .done) line (keptOf (linesIn (drop (i + length p) file))) ∙ ap (λ x. c .done ++ x) (sym (kept-at file h e d)) ∙ c .left;
           room = c .room;
         }
 

@@ -2,7 +2,7 @@
 use Prim.Native.Nat.{ℕ}
 use mathlib.Core.List.{List, [], _∷_, _++_}
 use Rattle.machine.specs.Lists.{pick}
-use Rattle.format.specs.Cutting.{rows}
+use Rattle.format.specs.Cutting.{linesIn}
 use Rattle.record.specs.Kinds.{isCity}
 
 -- a line, or nothing of a city's
@@ -16,4 +16,4 @@ keptOf (line ∷ lines) = keptLine line ++ keptOf lines
 
 -- THE BYTES WRITTEN: the file's own lines without those of cities, in their order
 unfoldable pub withoutCities : List ℕ → List ℕ
-withoutCities file = keptOf (rows file)
+withoutCities file = keptOf (linesIn file)

@@ -4,9 +4,9 @@ use mathlib.Core.Path.{_≡_}
 use mathlib.Core.List.{List, [], _∷_, _++_}
 use mathlib.Core.Bool.{Bool, true, not, _&&_}
 use mathlib.Core.Option.{none, some}
-use lib.ListN.{take, drop}
+use lib.ListN.{take}
 use Rattle.format.specs.Answers.{accepted}
-use Rattle.format.specs.Cutting.{rows}
+use Rattle.format.specs.Cutting.{afterNext, linesIn}
 use Rattle.format.specs.Statements.{InLanguage}
 use Rattle.reading.specs.State.{startState}
 use Rattle.reading.specs.Step.{stepAt}
@@ -28,20 +28,20 @@ noCity (line ∷ lines) = not (isCity line) && noCity lines
 pub data Rewrites : State → State → List ℕ → List ℕ → Type 0 where
   ended : (s w : State) → Rewrites s w [] []
   city : {s w : State} {x : ℕ} {xs out : List ℕ} → stepAt s (x ∷ xs) .answer .number ≡ accepted → entryOf (stepAt s (x ∷ xs) .read) ≡ none
-      → Rewrites (stepAt s (x ∷ xs) .next) w (drop 51 xs) out → Rewrites s w (x ∷ xs) out
+      → Rewrites (stepAt s (x ∷ xs) .next) w (afterNext (x ∷ xs)) out → Rewrites s w (x ∷ xs) out
   written : {s w : State} {x : ℕ} {xs out : List ℕ} (e : Entry) → stepAt s (x ∷ xs) .answer .number ≡ accepted → entryOf (stepAt s (x ∷ xs) .read) ≡ some e
       → writtenOf w e (stepAt s (x ∷ xs) .text) 52 .answer .number ≡ accepted
-      → Rewrites (stepAt s (x ∷ xs) .next) (writtenOf w e (stepAt s (x ∷ xs) .text) 52 .next) (drop 51 xs) out
+      → Rewrites (stepAt s (x ∷ xs) .next) (writtenOf w e (stepAt s (x ∷ xs) .text) 52 .next) (afterNext (x ∷ xs)) out
       → Rewrites s w (x ∷ xs) (lineFor w e (stepAt s (x ∷ xs) .text) ++ out)
 
 -- of the bytes written
 pub record Again (file bytes : List ℕ) : Type 0 where
   -- of a file without city records: the same file
-  pub same-file : noCity (rows file) ≡ true → bytes ≡ file
+  pub same-file : noCity (linesIn file) ≡ true → bytes ≡ file
   -- of every file: the reader accepts them, so they are a file of the language, and none of it is a city record
   pub accepted-again : checkOf bytes .number ≡ accepted
   pub in-language : InLanguage bytes
-  pub without-cities : noCity (rows bytes) ≡ true
+  pub without-cities : noCity (linesIn bytes) ≡ true
   -- and they are what the writer writes of the file's records but cities, one after the other from its own start
   pub by-writer : Rewrites startState startState file bytes
 

@@ -8,6 +8,7 @@ ghost use Rattle.machine.specs.Lists.{placed};
 ghost use Rattle.rewriting.specs.Cities.{keptLine, withoutCities};
 ghost use Rattle.rewriting.specs.Promises.{Promised};
 ghost use Rattle.rewriting.specs.Rewriting.{rewrittenOf, roomAfter};
+use field::bytes::next_line;
 use field::bytes::part;
 use field::bytes::put;
 use format::Answer;
@@ -36,9 +37,10 @@ fn size(file: &[u8]) -> usize
     let mut n: usize = 0;
     let mut i: usize = 0;
     while i < file.len() {
-        let line = kept(part(file, i, 52));
-        n += line.len();
-        i += 52;
+        let line = next_line(file, i);
+        let written = kept(line);
+        n += written.len();
+        i += line.len();
     }
     n
 }
@@ -51,10 +53,11 @@ fn copy(file: &[u8], out: &mut [u8])
     let mut at: usize = 0;
     let mut i: usize = 0;
     while i < file.len() {
-        let line = kept(part(file, i, 52));
-        put(line, at, out);
-        at += line.len();
-        i += 52;
+        let line = next_line(file, i);
+        let written = kept(line);
+        put(written, at, out);
+        at += written.len();
+        i += line.len();
     }
 }
 

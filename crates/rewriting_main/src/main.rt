@@ -105,7 +105,7 @@ fn put_entry(before: Copied, entry: Entry, text: [u8; 35], page: &mut [u8]) -> C
     }
     let next = w.next;
     copied.writer = next;
-    copied.at = at + 52;
+    copied.at = at + writer::LINE;
     copied
 }
 
@@ -148,17 +148,16 @@ fn copy_next(before: Copied, rest: &[u8], failed: bool, page: &mut [u8]) -> Copi
 
 // The lines of a file that was accepted. (A proved loop has to end, so this one counts its turns down from a number that no run uses up.)
 fn copy_lines(start: Lines, fd: i32, name: &[u8], page: &mut [u8]) -> Copied {
-    let mut buffer = [0u8; 65520];
+    let mut buffer = [0u8; streams::BUFFER];
     let mut lines = start;
     let mut copied = unwritten();
     let mut turns = u64::MAX;
     while 0 < turns {
-        lines = lines.pulled(fd, name, &mut buffer);
+        lines = lines.next(fd, name, &mut buffer);
         copied = copy_next(copied, lines.line(&buffer), lines.failed, page);
         if copied.ended {
             return copied;
         }
-        lines = lines.passed(52);
         turns -= 1;
     }
     copied
@@ -258,7 +257,7 @@ fn copy_next_input(i: usize, before: u8, several: bool, page: &mut [u8]) -> u8 {
 }
 
 fn main() {
-    let mut page = [0u8; 65520];
+    let mut page = [0u8; streams::BUFFER];
     let arguments = os::arg_count();
     let several = 2 < arguments;
     let mut status = copy_input(1, several, &mut page);

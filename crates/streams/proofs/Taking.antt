@@ -1,14 +1,15 @@
 -- What is taken of a buffer, and how a program ends. Assumes nothing.
-use Prim.Native.Nat.{ℕ, zero, suc, _+_, _-_, _≤_, _<_}
+use Prim.Native.Nat.{ℕ, zero, suc, _+_, _≤_, _<_, max}
 use mathlib.Core.Path.{_≡_, refl, ap, _∙_}
 use mathlib.Core.List.{List}
 use mathlib.Core.Bool.{true, _||_}
 use native.Mathlib.Omega.{arith}
 use borrow.Author.Tests.{lt-ltb, le-ltb}
-use lib.ListN.{take, drop}
+use lib.ListN.{length, take, drop, length-take, length-drop}
 use lib.Dec.{ltb, eqb}
 use Rattle.machine.specs.Lists.{pick}
-use Rattle.streams.specs.Taking.{hasLeft, passedBy, nextLine}
+use Rattle.format.specs.Cutting.{cutOf, nextLine}
+use Rattle.streams.specs.Taking.{hasLeft, leftIn, passedOne}
 use Rattle.streams.specs.Status.{statusDigit}
 use Rattle.streams.specs.declared.lines.Lines.{Lines}
 
@@ -36,31 +37,31 @@ some-filled (suc n) m = rw (lt-ltb 0 (suc n) (omega arith)) refl
 
 pub ruleset pulls = (left-some, left-over, kept-as-was, read-anew, some-filled)
 
--- ## Passing
-
-module _ (n : ℕ) (l : Lines) where
-  abbrev to : ℕ → Lines
-  to at = record { at = at; end = l .end; over = l .over; failed = l .failed }
-
-  pub passed-some : l .at < l .end → n < l .end - l .at → to (l .at + n) ≡ passedBy n l
-  unfolding passedBy pick
-  passed-some h k = rw (lt-ltb n (l .end - l .at) k) refl
-
-  pub passed-all : l .end - l .at ≤ n → to (l .end) ≡ passedBy n l
-  unfolding passedBy pick
-  passed-all h = rw (le-ltb n (l .end - l .at) h) refl
-
-  pub passed-none : l .end ≤ l .at → to (l .end) ≡ passedBy n l
-  passed-none h = passed-all (omega arith)
-
-pub ruleset passing = (passed-some, passed-all, passed-none)
-
 -- ## The next line
 
-pub line-taken : {f r : List ℕ} (l : Lines) (buffer : List ℕ) → f ≡ take (l .end) (drop 0 buffer) → r ≡ take 52 (drop (l .at) f) → r ≡ nextLine l buffer
-line-taken l buffer e p = p ∙ ap (λ x. take 52 (drop (l .at) x)) e
+module _ {f r : List ℕ} (l : Lines) (buffer : List ℕ) where
+  pub line-taken : f ≡ take (l .end) (drop 0 buffer) → r ≡ nextLine (drop (l .at) f) → r ≡ nextLine (leftIn l buffer)
+  line-taken e p = p ∙ ap (λ x. nextLine (drop (l .at) x)) e
 
 pub ruleset taking = line-taken
+
+-- after it
+module _ (l : Lines) (buffer r : List ℕ) (e : r ≡ nextLine (leftIn l buffer)) where
+  pub next-inside : l .at + length r ≤ max (l .at) (length buffer)
+  next-inside = omega (arith, ap length e, length-take (cutOf (leftIn l buffer) .bytes) (leftIn l buffer), length-drop (l .at) (take (l .end) buffer), length-take (l .end) buffer)
+
+abbrev movedTo : Lines → ℕ → Lines
+movedTo l at = record { at = at; end = l .end; over = l .over; failed = l .failed }
+
+pub next-kept : {r : List ℕ} {n : Lines} (l : Lines) (buffer : List ℕ) → r ≡ nextLine (leftIn l buffer) → n ≡ pick (hasLeft (movedTo l (l .at + length r))) (movedTo l (l .at + length r)) n
+    → n ≡ pick (hasLeft (passedOne l buffer)) (passedOne l buffer) n
+next-kept {n = n} l buffer e h = h ∙ ap (λ x. pick (hasLeft (movedTo l (l .at + length x))) (movedTo l (l .at + length x)) n) e
+
+pub next-bytes : {r b : List ℕ} (l : Lines) (buffer : List ℕ) → r ≡ nextLine (leftIn l buffer) → b ≡ pick (hasLeft (movedTo l (l .at + length r))) buffer b
+    → b ≡ pick (hasLeft (passedOne l buffer)) buffer b
+next-bytes {b = b} l buffer e h = h ∙ ap (λ x. pick (hasLeft (movedTo l (l .at + length x))) buffer b) e
+
+pub ruleset nexts = (next-kept, next-bytes)
 
 -- ## Status
 

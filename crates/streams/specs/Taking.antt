@@ -1,11 +1,11 @@
 -- What was taken of a buffer, and what is left of it.
-use Prim.Native.Nat.{ℕ, _+_, _-_}
+use Prim.Native.Nat.{ℕ, _+_}
 use mathlib.Core.List.{List}
 use mathlib.Core.Bool.{Bool, true, false}
-use lib.ListN.{take, drop}
+use lib.ListN.{length, take, drop}
 use lib.Dec.{ltb}
 use lib.IntN.{ℤ, pos}
-use Rattle.machine.specs.Lists.{pick}
+use Rattle.format.specs.Cutting.{nextLine}
 use Rattle.streams.specs.declared.lines.Lines.{Lines}
 use Rattle.streams.specs.declared.twice.Source.{Source}
 
@@ -20,13 +20,13 @@ unread = unreadIf false
 abbrev pub hasLeft : Lines → Bool
 hasLeft l = ltb (l .at) (l .end)
 
--- n bytes more are taken, or all that are left
-unfoldable pub passedBy : ℕ → Lines → Lines
-passedBy n l = record { at = pick (ltb n (l .end - l .at)) (l .at + n) (l .end); end = l .end; over = l .over; failed = l .failed }
+-- the bytes that are not
+abbrev pub leftIn : Lines → List ℕ → List ℕ
+leftIn l buffer = drop (l .at) (take (l .end) buffer)
 
--- the bytes of the next line, or as many as are left
-abbrev pub nextLine : Lines → List ℕ → List ℕ
-nextLine l buffer = take 52 (drop (l .at) (take (l .end) buffer))
+-- one line more is taken
+abbrev pub passedOne : Lines → List ℕ → Lines
+passedOne l buffer = record { at = l .at + length (nextLine (leftIn l buffer)); end = l .end; over = l .over; failed = l .failed }
 
 -- a temporary file, read from its start; an input, read from a place on
 abbrev pub fromStart : ℤ → Source

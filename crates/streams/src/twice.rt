@@ -36,7 +36,7 @@ fn is_kept(to: i32, bytes: &[u8]) -> bool {
 
 // All that an input has left, to the temporary file; whether that was done.
 fn spool(fd: i32, name: &[u8], to: i32) -> bool {
-    let mut buffer = [0u8; 65520];
+    let mut buffer = [0u8; crate::BUFFER];
     let mut turns = u64::MAX;
     while 0 < turns {
         let filled = fill(fd, name, &mut buffer);
@@ -47,7 +47,7 @@ fn spool(fd: i32, name: &[u8], to: i32) -> bool {
         if !kept {
             return false;
         }
-        if filled.count < 65520 {
+        if filled.count < crate::BUFFER {
             return true;
         }
         turns -= 1;

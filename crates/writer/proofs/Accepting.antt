@@ -6,19 +6,22 @@ use mathlib.Core.Bool.{Bool, true, false, not}
 use mathlib.Core.Option.{Option, none, some}
 use native.Mathlib.Omega.{arith}
 use borrow.Author.Tests.{eqb-true, eq-eqb}
-use lib.ListN.{length, getD, take, drop, take-append-drop, length-drop}
-use lib.Seq.{take-all, take-add, take-take, drop-cons, drop-drop, length-take-le}
-use lib.Dec.{T, eqb, leb}
+use lib.ListN.{length, take, drop, take-append-drop, length-take, length-drop}
+use lib.Seq.{take-all, take-add, take-take, drop-drop, length-take-le}
+use lib.Dec.{T, eqb}
 use Rattle.machine.specs.Lists.{pick}
-use Rattle.machine.proofs.Base.{and-first, and-second, true≢false, of-eq}
+use Rattle.machine.proofs.Base.{true≢false, of-eq}
 use Rattle.format.specs.Fields.{Field, width, widths, writeFields, Fits}
 use Rattle.format.specs.Records.{layout, code, Fields}
+use Rattle.format.specs.Language.{Ending, crlf, endBytes}
+use Rattle.format.specs.Cutting.{cutOf, nextLine}
 use Rattle.format.specs.Tests.{Test, test, Tests, sameGroupTests}
 use Rattle.format.specs.declared.Kind.{Kind}
 use Rattle.format.specs.declared.Kind.the-variants.{FileHeader, BatchHeaderB, BatchHeaderC, FixedDescription, OrderingParty, Transaction, NamePayer, CityPayer, PaymentReference, Description, NameBeneficiary, CityBeneficiary, BatchTrailer, FileTrailer}
 use Rattle.format.specs.declared.Group.{Group}
 use Rattle.format.specs.Answers.{acceptance}
 use Rattle.format.specs.declared.Code.the-variants.{Of}
+use Rattle.format.proofs.Cutting.{cut-bytes, whole-line, whole-long, whole-next, line-inside}
 use Rattle.format.proofs.Checks.{Hold, Holds, read-field}
 use Rattle.format.proofs.Link.{line-widths}
 use Rattle.field.specs.Rows.{Row, partAt, firstAnswer, fieldAnswer, rowsAt, checkRows, fieldsAt, firstOr}
@@ -31,12 +34,12 @@ use Rattle.record.specs.declared.Batch.{Batch}
 use Rattle.record.specs.declared.Fault.{Fault}
 use Rattle.record.proofs.Reading.{is-formed}
 use Rattle.record.proofs.Coding.{code-is}
-use Rattle.reading.specs.Step.{nextFor, isWhole, judgedFirst, readBy, stepAt}
+use Rattle.reading.specs.Step.{nextFor, judgedFirst, readBy, stepAt}
 use Rattle.reading.specs.declared.State.{State}
 use Rattle.reading.specs.declared.Judged.{Judged}
 use Rattle.reading.specs.declared.LineRead.{LineRead}
 use Rattle.reading.proofs.Answers.{step-first, step-judged}
-use Rattle.reading.proofs.Running.{first-52, whole-long}
+use Rattle.reading.proofs.Running.{first-own}
 use Rattle.reading.proofs.Verdicts.{next-line, Taken, takes}
 use Rattle.writer.specs.Encoding.{lineEnd}
 
@@ -110,7 +113,7 @@ abbrev pub takenAs : State → (k : Kind) → Fields k → LineRead
 takenAs s k x = record { answer = acceptance (s .line + 1); next = nextFor s k x; read = recordFor k x; text = textFor k x }
 
 pub record Accepted (s : State) (xs : List ℕ) : Type 0 where
-  pub whole : isWhole xs ≡ true
+  pub whole : cutOf xs .whole ≡ true
   pub kind : Kind
   pub coded : codeOf (take 5 (take 50 xs)) ≡ Of kind
   pub fields : Faultless 6 (layout kind) (testsFor (s .before) (s .batch) kind (fieldsOf kind (take 50 xs))) (take 50 xs)
@@ -121,7 +124,7 @@ unfolding faultOf firstFault
 of-taken {s} {xs} t e =
     let k = t .kind in
     let x = fieldsOf k (take 50 xs) in
-    let l : length (take 50 xs) ≡ 50 = length-take-le 50 xs (omega (arith, whole-long xs (t .whole))) in
+    let l : length (take 50 xs) ≡ 50 = length-take-le 50 xs (omega (arith, whole-long xs (t .whole), cut-bytes xs)) in
     let v = line-widths k .1 in
     record {
       whole = t .whole;
@@ -134,37 +137,36 @@ of-taken {s} {xs} t e =
 pub accepts : (s : State) (xs : List ℕ) → 0 < length xs → stepAt s xs .answer .number ≡ 0 → Accepted s xs
 accepts s xs h z = of-taken (takes s xs (sym (step-judged s xs h .0) ∙ z)) (step-first s xs h)
 
--- its 52 bytes by its fields
-module _ {s : State} {xs : List ℕ} (a : Accepted s xs) where
-  pub accepted-long : 52 ≤ length xs
-  accepted-long = whole-long xs (a .whole)
+take-50 : (xs : List ℕ) → take 50 (nextLine xs) ≡ take 50 xs
+take-50 xs = take-take 50 (cutOf xs .bytes) xs (omega (arith, cut-bytes xs))
 
+-- its bytes by its fields
+module _ {s : State} {xs : List ℕ} (a : Accepted s xs) where
   pub accepted-code : take 5 (take 50 xs) ≡ code (a .kind)
   accepted-code = code-is (take 5 (take 50 xs)) (a .kind) (a .coded)
 
   pub accepted-body : take 45 (drop 5 (take 50 xs)) ≡ writeFields (layout (a .kind)) (fieldsOf (a .kind) (take 50 xs))
   accepted-body = ap (λ n. take n (drop 5 (take 50 xs))) (sym (line-widths (a .kind) .1)) ∙ a .fields .is
 
-  ending : take 2 (drop 50 xs) ≡ lineEnd
-  unfolding isWhole
-  ending =
-      let l = accepted-long in
-      let w = and-second (leb 52 (length xs)) _ (a .whole) in
-      let p : getD xs 50 0 ≡ 13 = eqb-true (getD xs 50 0) 13 (and-first _ _ w) in
-      let q : getD xs 51 0 ≡ 10 = eqb-true (getD xs 51 0) 10 (and-second (eqb (getD xs 50 0) 13) _ w) in
-      ap (take 2) (drop-cons xs 50 0 (omega arith) ∙ ap (λ r. getD xs 50 0 ∷ r) (drop-cons xs 51 0 (omega arith))) ∙ ap₂ (λ y z. y ∷ z ∷ []) p q
+  ending : drop 50 (nextLine xs) ≡ lineEnd
+  ending = let w = whole-line xs (a .whole) in by (w .0) (w .1 .ended)
+    where
+      by : (z : Ending) → drop 50 (nextLine xs) ≡ endBytes z → drop 50 (nextLine xs) ≡ lineEnd
+      by crlf h = h
 
-  pub accepted-line : take 52 xs ≡ code (a .kind) ++ (writeFields (layout (a .kind)) (fieldsOf (a .kind) (take 50 xs)) ++ lineEnd)
+  pub accepted-line : nextLine xs ≡ code (a .kind) ++ (writeFields (layout (a .kind)) (fieldsOf (a .kind) (take 50 xs)) ++ lineEnd)
   accepted-line =
-      let l : length (take 50 xs) ≡ 50 = length-take-le 50 xs (omega (arith, accepted-long)) in
-      let m : length (drop 5 (take 50 xs)) ≡ 45 = rw length-drop (omega arith) in
-      take-add 50 2 xs
-      ∙ ap₂ _++_ (sym (take-append-drop 5 (take 50 xs)) ∙ ap₂ _++_ accepted-code (sym (take-all 45 (drop 5 (take 50 xs)) (omega arith)) ∙ accepted-body)) ending
+      let m : length (drop 5 (take 50 xs)) ≤ 45 = rw (length-drop, length-take) (omega arith) in
+      sym (take-append-drop 50 (nextLine xs))
+      ∙ ap₂ _++_ (take-50 xs ∙ sym (take-append-drop 5 (take 50 xs)) ∙ ap₂ _++_ accepted-code (sym (take-all 45 (drop 5 (take 50 xs)) m) ∙ accepted-body)) ending
       ∙ append-assoc (code (a .kind)) (writeFields (layout (a .kind)) (fieldsOf (a .kind) (take 50 xs))) lineEnd
 
--- ## A line is judged by its own 52 bytes
+-- ## A line is judged by its own bytes
 
-pub step-front : (s : State) (xs : List ℕ) → stepAt s (take 52 xs) ≡ stepAt s xs
-unfolding stepAt
-step-front s [] = refl
-step-front s (x ∷ xs) = ap₂ (λ l j. readBy l (j .code) j) (take-take 50 52 (x ∷ xs) (omega arith)) (first-52 s (x ∷ xs))
+pub step-front : (s : State) (xs : List ℕ) → stepAt s (nextLine xs) ≡ stepAt s xs
+step-front s [] = ap (stepAt s) (take-all (cutOf [] .bytes) [] (omega arith))
+step-front s (x ∷ xs) =
+    step-first s (nextLine (x ∷ xs)) (line-inside (x ∷ xs) 0 (omega arith) refl .0) ∙ ap₂ (λ l j. readBy l (j .code) j) (take-50 (x ∷ xs)) (first-own s (x ∷ xs)) ∙ sym (step-first s (x ∷ xs) (omega arith))
+
+pub step-on : {s : State} {xs : List ℕ} → Accepted s xs → (rest : List ℕ) → stepAt s (xs ++ rest) ≡ stepAt s xs
+step-on {s} {xs} a rest = sym (step-front s (xs ++ rest)) ∙ ap (stepAt s) (whole-next xs rest (a .whole)) ∙ step-front s xs

@@ -11,6 +11,7 @@ use lib.Seq.{take-at}
 use lib.Dec.{T, eqb, leb}
 use Rattle.machine.specs.Lists.{pick}
 use Rattle.format.specs.Answers.{refusal}
+use Rattle.format.specs.Cutting.{nextLine}
 use Rattle.reading.specs.Step.{stepAt}
 use Rattle.reading.specs.declared.State.{State}
 use Rattle.reading.specs.declared.LineRead.{LineRead}
@@ -20,7 +21,7 @@ use Rattle.writer.specs.Promises.{recordOf, entryOf, ReadsBack, WritesAg
 use Rattle.writer.specs.declared.Entry.{Entry}
 use Rattle.writer.specs.declared.Written.{Written}
 use Rattle.writer.proofs.Placing.{answer-via, room-via}
-use Rattle.writer.proofs.Accepting.{step-front}
+use Rattle.writer.proofs.Accepting.{accepts, step-front, step-on}
 use Rattle.writer.proofs.Back.{line-52, read-back}
 use Rattle.writer.proofs.Again.{none≢some, written-again}
 
@@ -67,7 +68,7 @@ module _ (s : State) (e : Entry) (t : List ℕ) (h : length t ≡ 35) where
       record {
         next-line = ap (λ (v : Written). v .answer) w ∙ ap (λ (v : LineRead). v .answer) f;
         same-record = λ rest.
-            ap (λ m. stepAt s (m ++ rest)) o ∙ sym (step-front s (l ++ rest)) ∙ ap (stepAt s) (take-at l rest 52 (line-52 s e t h)) ∙ f
+            ap (λ m. stepAt s (m ++ rest)) o ∙ step-on (accepts s l (omega (arith, line-52 s e t h)) (eqb-true (r .answer) 0 (p .0))) rest ∙ f
             ∙ ap₂ (λ a u. record { answer = a; next = u; read = recordOf s e; text = t }) (sym (ap (λ (v : Written). v .answer) w ∙ ap (λ (v : LineRead). v .answer) f)) (sym (ap (λ (v : Written). v .next) w));
       }
 
@@ -75,7 +76,7 @@ module _ (s : State) (e : Entry) (t : List ℕ) (h : length t ≡ 35) where
   unfolding WritesAgain writtenOf roomOf
   writes-again out n xs z q y =
       let l = lineFor s e t in
-      let m : take 52 xs ≡ lineFor s e t = written-again s xs (some-bytes s xs e q) z e q ∙ ap (lineFor s e) y in
+      let m : nextLine xs ≡ lineFor s e t = written-again s xs (some-bytes s xs e q) z e q ∙ ap (lineFor s e) y in
       let r : stepAt s (lineFor s e t) ≡ stepAt s xs = ap (stepAt s) (sym m) ∙ step-front s xs in
       let a : eqb (stepAt s (lineFor s e t) .answer .number) 0 ≡ true = eq-eqb (stepAt s (lineFor s e t) .answer .number) 0 (ap (λ (v : LineRead). v .answer .number) r ∙ z) in
       let b = le-leb 52 (length out) n in

@@ -11,6 +11,7 @@ use Rattle.machine.specs.Lists.{pick, all, isSpace}
 use Rattle.machine.specs.Digits.{pow10}
 use Rattle.format.specs.Fields.{Field, numeric, filled, optional, free, filler, width, printable}
 use Rattle.format.specs.Records.{layout}
+use Rattle.format.specs.Cutting.{nextLine}
 use Rattle.format.specs.Answers.{accepted, wrongForm, acceptance}
 use Rattle.record.specs.declared.Record.{Record}
 use Rattle.record.specs.declared.Record.the-variants as read
@@ -59,10 +60,10 @@ pub record ReadAsWritten (s : State) (e : Entry) (t : List ℕ) (w : Written) (o
   pub next-line : w .answer ≡ acceptance (s .line + 1)
   pub same-record : (rest : List ℕ) → stepAt s (take 52 out ++ rest) ≡ record { answer = w .answer; next = w .next; read = recordOf s e; text = t }
 
--- the same 52 bytes, with the same answer and next state
+-- the same bytes, with the same answer and next state
 pub record WrittenAsRead (s : State) (xs : List ℕ) (w : Written) (out : List ℕ) : Type 0 where
   pub same-answer : w ≡ answered (stepAt s xs .answer) (stepAt s xs .next)
-  pub same-bytes : take 52 out ≡ take 52 xs
+  pub same-bytes : take 52 out ≡ nextLine xs
 
 -- WHAT IS WRITTEN IS READ: an answer w, and the room after it
 unfoldable pub ReadsBack : State → Entry → List ℕ → Written → List ℕ → Type 0

@@ -14,6 +14,9 @@ use record::Transaction;
 mod fields;
 mod lines;
 
+// The bytes of a line written.
+pub const LINE: usize = 52;
+
 // A record to write: of every kind but city, a trailer without its numbers; its text stands beside it.
 pub enum Entry {
     FileHeader {
@@ -62,7 +65,7 @@ fn write_line(state: State, line: [u8; 52], out: &mut [u8]) -> Written
             next: state,
         };
     }
-    if out.len() < 52 {
+    if out.len() < LINE {
         return Written {
             answer: Answer::refusal(format::NO_ROOM, answer.line, 0),
             next: state,

@@ -22,13 +22,12 @@ check-spec =
     (λ c κs. search needs)  -- start-requires-2
     (λ c κs. search answers depth 20 fits 10000)  -- answered-requires
     (λ c. (search needs, search answers depth 20 fits 10000))  -- loop-holds
-    (λ c κs. search needs)  -- pulled-requires
-    (λ c κs. search answers depth 20 fits 10000)  -- next-requires
+    (λ c κs. search needs)  -- next-requires
+    (λ c κs. search answers depth 20 fits 10000)  -- next-requires-2
     (λ c. search needs)  -- same-length
     (λ c. search answers depth 20 fits 10000)  -- returns
     (λ c. search needs)  -- same-length-2
     (λ c. search answers depth 20 fits 10000)  -- returns-2
-    (λ c κs. search needs)  -- passed-requires
     (λ c. search needs)  -- sub-turns
     (λ c. search needs)  -- loop-less
     (λ c. (search (c .before .before .before .before .before .before .before .before .before .before .before .before .loop .inv, needs), search answers depth 20 fits 10000))  -- loop-again

@@ -18,12 +18,11 @@ measured-on-spec =
     μ-loop
     (λ c κs. search needs)  -- unmeasured-requires
     (λ c. search needs)  -- loop-holds
-    (λ c κs. search needs)  -- pulled-requires
     (λ c κs. search needs)  -- line-requires
     (λ c κs. search needs)  -- measured-requires
     (λ c. search needs)  -- same-length
     (λ c. search needs)  -- returns
-    (λ c κs. search needs)  -- passed-requires
+    (λ c κs. search needs)  -- next-requires
     (λ c. search needs)  -- sub-turns
     (λ c. search needs)  -- loop-less
     (λ c. search needs)  -- loop-again

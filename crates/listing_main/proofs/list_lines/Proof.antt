@@ -18,14 +18,13 @@ list-lines-spec =
     μ-loop
     (λ c κs. search needs)  -- start-requires
     (λ c. search needs)  -- loop-holds
-    (λ c. search needs)  -- slice-aggregate-pulled
-    (λ c κs. search needs)  -- pulled-requires
+    (λ c. search needs)  -- slice-aggregate-next
+    (λ c κs. search needs)  -- next-requires
     (λ c. search needs)  -- slice-aggregate-line
     (λ c κs. search needs)  -- line-requires
     (λ c κs. search needs)  -- list-line-requires
     (λ c. search needs)  -- same-length
     (λ c. search needs)  -- returns
-    (λ c κs. search needs)  -- passed-requires
     (λ c. search needs)  -- sub-turns
     (λ c. search needs)  -- loop-less
     (λ c. search needs)  -- loop-again

@@ -1,6 +1,7 @@
 use borrow.Author.Needs.{needs}
 use Prim.Native.Nat.{_-_}
 use lib.ListN.{length}
+use Rattle.format.proofs.Cutting.{line-less}
 use Rattle.rewriting.proofs.Copying.{copies, copy-sum, Copying}
 use Rattle.rewriting.proofs.copy.Statement.{statement}
 use Rattle.rewriting.proofs.copy.Tie as tie
@@ -18,12 +19,12 @@ copy-spec =
     Inv-loop
     μ-loop
     (λ c. search copies depth 20 fits 10000)  -- loop-holds
-    (λ c κs. search needs)  -- part-requires
+    (λ c κs. search needs)  -- next-line-requires
     (λ c κs. search needs)  -- kept-requires
     (λ c κs. search needs)  -- put-requires
-    (λ c. search (copy-sum (c .before .before .before .before .before .before .before .loop .inv) (c .before .before .before .before .before .before .loop-test .taken) (c .before .before .before .before .before .part .ensures) (c .before .before .before .before .kept .ensures), needs))  -- add-at
+    (λ c. search (copy-sum (c .before .before .before .before .before .before .before .loop .inv) (c .before .before .before .before .before .before .loop-test .taken) (c .before .before .before .before .before .next-line .ensures) (c .before .before .before .before .kept .ensures), needs))  -- add-at
     (λ c. search needs)  -- add-i
-    (λ c. search needs)  -- loop-less
+    (λ c. search line-less)  -- loop-less
     (λ c. search copies depth 20 fits 10000)  -- loop-again
     (λ c. search copies depth 20 fits 10000)  -- same-length
     (λ c. search copies depth 20 fits 10000)  -- returns

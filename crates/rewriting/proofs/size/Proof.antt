@@ -1,6 +1,7 @@
 use borrow.Author.Needs.{needs}
 use Prim.Native.Nat.{_-_}
 use lib.ListN.{length}
+use Rattle.format.proofs.Cutting.{line-less}
 use Rattle.rewriting.proofs.Copying.{counts, count-fits, Counting}
 use Rattle.rewriting.proofs.size.Statement.{statement}
 use Rattle.rewriting.proofs.size.Tie as tie
@@ -18,11 +19,11 @@ size-spec =
     Inv-loop
     μ-loop
     (λ c. search counts depth 20 fits 10000)  -- loop-holds
-    (λ c κs. search needs)  -- part-requires
+    (λ c κs. search needs)  -- next-line-requires
     (λ c κs. search needs)  -- kept-requires
-    (λ c. search (count-fits (c .before .before .before .loop .inv) (c .before .before .loop-test .taken) (c .before .part .ensures) (c .kept .ensures), needs))  -- add-n
+    (λ c. search (count-fits (c .before .before .before .loop .inv) (c .before .before .loop-test .taken) (c .before .next-line .ensures) (c .kept .ensures), needs))  -- add-n
     (λ c. search needs)  -- add-i
-    (λ c. search needs)  -- loop-less
+    (λ c. search line-less)  -- loop-less
     (λ c. search counts depth 20 fits 10000)  -- loop-again
     (λ c. search counts depth 20 fits 10000)  -- returns
     )

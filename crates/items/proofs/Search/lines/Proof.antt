@@ -1,6 +1,7 @@
 use borrow.Author.Needs.{needs}
 use Prim.Native.Nat.{_-_}
 use lib.ListN.{length}
+use Rattle.format.proofs.Cutting.{line-less}
 use Rattle.items.proofs.Searching.{passes, Passing}
 use Rattle.items.proofs.Search.lines.Statement.{statement}
 use Rattle.items.proofs.Search.lines.Tie as tie
@@ -18,10 +19,10 @@ lines-spec =
     Inv-loop
     μ-loop
     (λ c. search passes depth 20 fits 10000)  -- loop-holds
-    (λ c κs. search needs)  -- part-requires
+    (λ c κs. search needs)  -- next-line-requires
     (λ c κs. search needs)  -- line-requires
     (λ c. search needs)  -- add-i
-    (λ c. search needs)  -- loop-less
+    (λ c. search line-less)  -- loop-less
     (λ c. search passes depth 20 fits 10000)  -- loop-again
     (λ c. search passes depth 20 fits 10000)  -- returns
     )

@@ -1,12 +1,12 @@
 use borrow.Author.Needs.{needs}
 use Rattle.reading.proofs.Limits.{within-limited}
 use Rattle.field.proofs.Picks.{picks}
-use Rattle.reading.specs.Check.{linesOf}
+use Rattle.reading.specs.Check.{judgedLines}
 use Rattle.reading.proofs.State.lines.Statement.{statement}
 use Rattle.reading.proofs.State.lines.Tie as tie
 
 pub lines-spec : {M : Type 1} → statement M
-unfolding linesOf
+unfolding judgedLines
 lines-spec =
     tie.close
     (tie.spec

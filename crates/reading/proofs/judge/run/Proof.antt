@@ -1,6 +1,7 @@
 use borrow.Author.Needs.{needs}
 use Prim.Native.Nat.{_-_}
 use lib.ListN.{length}
+use Rattle.format.proofs.Cutting.{line-less}
 use Rattle.reading.proofs.Running.{Running, runs, run-more}
 use Rattle.reading.proofs.Judgements.{limited-after}
 use Rattle.reading.specs.State.{Limited}
@@ -25,7 +26,7 @@ run-spec =
     (λ c κs. search needs)
     (λ c. search runs depth 20 fits 10000)
     (λ c. search needs)
-    (λ c. search needs)
-    (λ c. (search limited-after depth 20 fits 10000, run-more (c .before .before .before .before .before .loop .inv .1) (c .before .before .before .before .loop-test .taken) (c .before .before .before .part .ensures) (c .before .before .then .ensures) (c .if1 .left)))
+    (λ c. search line-less)
+    (λ c. (search limited-after depth 20 fits 10000, run-more (c .before .before .before .before .before .loop .inv .1) (c .before .before .before .before .loop-test .taken) (c .before .before .before .next-line .ensures) (c .before .before .then .ensures) (c .if1 .left)))
     (λ c. search runs depth 20 fits 10000)
     )
