@@ -68,7 +68,7 @@ module _ (s : State) (e : Entry) (t : List ℕ) (h : length t ≡ 35) where
       record {
         next-line = ap (λ (v : Written). v .answer) w ∙ ap (λ (v : LineRead). v .answer) f;
         same-record = λ rest.
-            ap (λ m. stepAt s (m ++ rest)) o ∙ step-on (accepts s l (omega (arith, line-52 s e t h)) (eqb-true (r .answer) 0 (p .0))) rest ∙ f
+            ap (λ m. stepAt s (m ++ rest)) o ∙ step-on (accepts s l (omega (arith, line-52 s e t h)) (eqb-true (r .answer .number) 0 (p .0))) rest ∙ f
             ∙ ap₂ (λ a u. record { answer = a; next = u; read = recordOf s e; text = t }) (sym (ap (λ (v : Written). v .answer) w ∙ ap (λ (v : LineRead). v .answer) f)) (sym (ap (λ (v : Written). v .next) w));
       }
 
