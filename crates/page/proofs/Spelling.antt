@@ -12,7 +12,7 @@ use lib.Dec.{eqb}
 use Rattle.machine.specs.Lists.{pick}
 use Rattle.machine.specs.Digits.{decimal}
 use Rattle.machine.proofs.Digits.{length-decimal}
-use Rattle.format.specs.declared.Answer.{Answer}
+use Rattle.format.specs.Answers.{refusal}
 use Rattle.page.specs.Lines.{lineOf, withText, withoutZeros, numberText, answerKey, lineKey, columnKey, withAnswer}
 
 -- ## Zeros in front
@@ -63,9 +63,9 @@ module _ {d t : List ℕ} {k : ℕ} (n least z : ℕ) (e : d ≡ decimal 20 n) (
 
 pub ruleset spells = (number-line, number-put, needs)
 
-pub answer-lines : {p q : List ℕ} {a b number column : ℕ} {o : List ℕ × ℕ} (page : List ℕ × ℕ) (x : Answer) → number ≡ x .number → column ≡ x .column → (p, a) ≡ withText page (lineOf answerKey (numberText 1 number))
-    → (q, b) ≡ withText (p, a) (lineOf lineKey (numberText 1 (x .line))) → o ≡ withText (q, b) (lineOf columnKey (numberText 1 column)) → o ≡ withAnswer page x
+pub answer-lines : {p q : List ℕ} {a b : ℕ} {o : List ℕ × ℕ} (page : List ℕ × ℕ) (number line column : ℕ) → (p, a) ≡ withText page (lineOf answerKey (numberText 1 number))
+    → (q, b) ≡ withText (p, a) (lineOf lineKey (numberText 1 line)) → o ≡ withText (q, b) (lineOf columnKey (numberText 1 column)) → o ≡ withAnswer page (refusal number line column)
 unfolding withAnswer
-answer-lines {column = column} page x n c k l m = rw (← n, ← c) (m ∙ ap (λ u. withText u (lineOf columnKey (numberText 1 column))) (l ∙ ap (λ u. withText u (lineOf lineKey (numberText 1 (x .line)))) k))
+answer-lines page number line column k l m = m ∙ ap (λ u. withText u (lineOf columnKey (numberText 1 column))) (l ∙ ap (λ u. withText u (lineOf lineKey (numberText 1 line))) k)
 
 pub ruleset answers = (answer-lines, needs)

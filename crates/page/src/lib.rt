@@ -5,6 +5,7 @@ ghost use Prim.Native.Nat.{_+_, _-_, _≤_};
 ghost use lib.ListN.{length, drop};
 ghost use lib.Dec.{leb};
 ghost use Rattle.machine.specs.Lists.{placed};
+ghost use Rattle.format.specs.Answers.{refusal};
 ghost use Rattle.page.specs.Lines.{lineOf, withText, withoutZeros, numberText, withAnswer, withInput};
 use field::bytes::part;
 use field::bytes::put;
@@ -106,13 +107,19 @@ pub fn put_number(page: &mut [u8], at: usize, key: &[u8], n: u64, least: usize) 
     put_line(page, at, key, part(&digits, z, 20))
 }
 
+fn put_parts(page: &mut [u8], at: usize, number: u8, line: u64, column: u8) -> usize
+    ensures { λ r. ⌜ (now (page .exit), r) ≡ withAnswer (now (page .entry), at) (refusal number line column) ⌝ }
+{
+    let a = put_number(page, at, b"answer=", number as u64, 1);
+    let b = put_number(page, a, b"line=", line, 1);
+    put_number(page, b, b"column=", column as u64, 1)
+}
+
 // The three lines of an answer.
 pub fn put_answer(page: &mut [u8], at: usize, answer: Answer) -> usize
     ensures { λ r. ⌜ (now (page .exit), r) ≡ withAnswer (now (page .entry), at) answer ⌝ }
 {
-    let a = put_number(page, at, b"answer=", answer.number as u64, 1);
-    let b = put_number(page, a, b"line=", answer.line, 1);
-    put_number(page, b, b"column=", answer.column as u64, 1)
+    put_parts(page, at, answer.number, answer.line, answer.column)
 }
 
 // The name of an input at the start of a page, where there are several.

@@ -1,6 +1,5 @@
--- What put_answer ensures, by the laws of Spelling.
+-- What put_answer ensures: what its parts do.
 use borrow.Author.Needs.{needs}
-use Rattle.page.proofs.Spelling.{answers}
 use Rattle.page.proofs.put_answer.Statement.{statement}
 use Rattle.page.proofs.put_answer.Tie as tie
 
@@ -8,14 +7,7 @@ pub put-answer-spec : {M : Type 1} → statement M
 put-answer-spec =
     tie.close
     (tie.spec
-    (λ c. search needs)  -- slice-aggregate-put-number
-    (λ c. search needs)  -- cast-put-number
-    (λ c κs. search needs)  -- put-number-requires
-    (λ c. search needs)  -- slice-aggregate-put-number-2
-    (λ c κs. search needs)  -- put-number-requires-2
-    (λ c. search needs)  -- slice-aggregate-put-number-3
-    (λ c. search needs)  -- cast-put-number-2
-    (λ c κs. search needs)  -- put-number-requires-3
+    (λ c κs. search needs)  -- put-parts-requires
     (λ c. search needs)  -- same-length
-    (λ c. search answers depth 20 fits 10000)  -- returns
+    (λ c. search needs)  -- returns
     )
