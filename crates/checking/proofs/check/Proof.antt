@@ -30,7 +30,7 @@ check-spec =
     (λ c. search answers depth 20 fits 10000)  -- returns-2
     (λ c. search needs)  -- sub-turns
     (λ c. search needs)  -- loop-less
-    (λ c. (search (c .before .before .before .before .before .before .before .before .before .before .before .before .loop .inv, needs), search answers depth 20 fits 10000))  -- loop-again
+    (λ c. (search needs, search answers depth 20 fits 10000))  -- loop-again
     (λ c. search needs)  -- same-length-3
     (λ c. search answers depth 20 fits 10000)  -- returns-3
     )
