@@ -1,3 +1,4 @@
+-- That filled is safe and its loop ends.
 use borrow.Author.Needs.{needs}
 use Prim.Native.Nat.{_≤_}
 use lib.ListN.{length}

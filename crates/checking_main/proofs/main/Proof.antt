@@ -1,3 +1,4 @@
+-- That main is safe and its loop ends.
 use borrow.Author.Needs.{needs}
 use Prim.Native.Nat.{_-_}
 use Rattle.checking_main.proofs.main.Statement.{statement}

@@ -1,3 +1,4 @@
+-- What clieop_check ensures, by the laws of Packing.
 use borrow.Author.Needs.{needs}
 use Rattle.clieop_c.proofs.Packing.{checks}
 use Rattle.clieop_c.proofs.clieop_check.Statement.{statement}

@@ -1,3 +1,4 @@
+-- What clieop_rewrite ensures, by the laws of Writing.
 use borrow.Author.Needs.{needs}
 use Rattle.clieop_c.proofs.Writing.{again-line, again-number, again-written, again-found, again-promised}
 use Rattle.clieop_c.proofs.clieop_rewrite.Statement.{statement}

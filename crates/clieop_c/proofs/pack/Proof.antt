@@ -1,3 +1,4 @@
+-- What pack ensures, by the laws of Packing.
 use borrow.Author.Needs.{needs}
 use Rattle.clieop_c.proofs.Packing.{packing}
 use Rattle.clieop_c.proofs.pack.Statement.{statement}

@@ -1,3 +1,4 @@
+-- What check ensures, by the laws of reading's Answers and Meaning.
 use borrow.Author.Needs.{needs}
 use Rattle.reading.proofs.Answers.{checked}
 use Rattle.file.proofs.Meaning.{meant}

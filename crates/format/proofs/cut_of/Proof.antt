@@ -1,3 +1,4 @@
+-- What cut_of ensures, by the laws of Cutting.
 use borrow.Author.Needs.{needs}
 use Rattle.format.proofs.Cutting.{line-cuts}
 use Rattle.format.proofs.cut_of.Statement.{statement}

@@ -1,3 +1,4 @@
+-- That seek is safe and its loop ends.
 use borrow.Author.Needs.{needs}
 use Prim.Native.Nat.{_-_}
 use Rattle.items_main.proofs.seek.Statement.{statement}

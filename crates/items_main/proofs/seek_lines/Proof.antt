@@ -1,3 +1,4 @@
+-- That seek_lines is safe and its loop ends.
 use borrow.Author.Needs.{needs}
 use mathlib.Core.Path.{_≡_}
 use lib.ListN.{length}

@@ -1,3 +1,4 @@
+-- What copy ensures and its loop keeps, by the laws of format's Cutting and Copying.
 use borrow.Author.Needs.{needs}
 use Prim.Native.Nat.{_-_}
 use lib.ListN.{length}

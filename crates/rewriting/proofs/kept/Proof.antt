@@ -1,3 +1,4 @@
+-- What kept ensures, by the laws of Copying.
 use borrow.Author.Needs.{needs}
 use Rattle.rewriting.proofs.Copying.{cities}
 use Rattle.rewriting.proofs.kept.Statement.{statement}

@@ -1,3 +1,4 @@
+-- What rewrite ensures, by the laws of Copying and Again.
 use borrow.Author.Needs.{needs}
 use Rattle.rewriting.proofs.Copying.{rooms, copy-asked}
 use Rattle.rewriting.proofs.Again.{promise-none, promise-small, promise-met}

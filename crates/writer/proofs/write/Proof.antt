@@ -1,3 +1,4 @@
+-- What write ensures, by the laws of Placing, Refusing and Keeping.
 use borrow.Author.Needs.{needs}
 use Rattle.writer.proofs.Placing.{answer-via, room-via}
 use Rattle.writer.proofs.Refusing.{unfit-via}

@@ -1,3 +1,4 @@
+-- What write_line ensures, by the laws of Placing.
 use borrow.Author.Needs.{needs}
 use Rattle.writer.proofs.Placing.{rooms}
 use Rattle.writer.proofs.write_line.Statement.{statement}

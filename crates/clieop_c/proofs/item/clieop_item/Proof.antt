@@ -1,3 +1,4 @@
+-- What item::clieop_item ensures, by the laws of Handing.
 use borrow.Author.Needs.{needs}
 use Rattle.clieop_c.proofs.Handing.{whole-line, whole-number, whole-numbers, whole-found, whole-promised}
 use Rattle.clieop_c.proofs.item.clieop_item.Statement.{statement}

@@ -1,3 +1,4 @@
+-- What item::hand_out ensures, by the laws of Handing.
 use borrow.Author.Needs.{needs}
 use Rattle.clieop_c.proofs.Handing.{asked-unplaced, asked-unroomed, lacking-numbers, texts-unplaced, texts-unroomed, lacking-held, unplaced-promised, unroomed-promised, asked, numbers-kept, numbers-handed, texts-handed, texts-refused, held-handed, held-refused, promised-handed, promised-refused}
 use Rattle.clieop_c.proofs.item.hand_out.Statement.{statement}

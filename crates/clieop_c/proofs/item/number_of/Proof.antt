@@ -1,3 +1,4 @@
+-- What item::number_of ensures.
 use borrow.Author.Needs.{needs}
 use Rattle.machine.specs.Digits.{valueAfter}
 use Rattle.clieop_c.specs.Returned.{numberOf}

@@ -1,3 +1,4 @@
+-- What item::put_numbers ensures, by the laws of Handing.
 use borrow.Author.Needs.{needs}
 use Rattle.clieop_c.proofs.Handing.{numbers}
 use Rattle.clieop_c.proofs.item.put_numbers.Statement.{statement}

@@ -1,3 +1,4 @@
+-- What item::put_texts ensures, by the laws of Handing.
 use borrow.Author.Needs.{needs}
 use Rattle.clieop_c.proofs.Handing.{texts}
 use Rattle.clieop_c.proofs.item.put_texts.Statement.{statement}

@@ -1,3 +1,4 @@
+-- What item::type_number ensures, by the laws of Handing.
 use borrow.Author.Needs.{needs}
 use Rattle.clieop_c.proofs.Handing.{type-of}
 use Rattle.clieop_c.proofs.item.type_number.Statement.{statement}

@@ -1,3 +1,4 @@
+-- What item::without_room ensures, by the laws of Handing.
 use borrow.Author.Needs.{needs}
 use Rattle.clieop_c.proofs.Handing.{room-of-one, promised-of-one}
 use Rattle.clieop_c.proofs.item.without_room.Statement.{statement}

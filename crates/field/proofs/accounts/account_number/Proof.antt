@@ -1,3 +1,4 @@
+-- What accounts::account_number ensures, by the laws of Numerics.
 use borrow.Author.Needs.{needs}
 use Rattle.field.proofs.Numerics.{range-of}
 use Rattle.field.proofs.accounts.account_number.Statement.{statement}

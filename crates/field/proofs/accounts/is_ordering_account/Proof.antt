@@ -1,3 +1,4 @@
+-- What accounts::is_ordering_account ensures, by the laws of Elevens.
 use borrow.Author.Needs.{needs}
 use Rattle.field.proofs.Elevens.{elevens}
 use Rattle.field.proofs.accounts.is_ordering_account.Statement.{statement}

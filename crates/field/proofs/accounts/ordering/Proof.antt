@@ -1,3 +1,4 @@
+-- What accounts::ordering ensures, by the laws of Elevens and Numerics.
 use borrow.Author.Needs.{needs}
 use Rattle.field.proofs.Elevens.{ten-digits}
 use Rattle.field.proofs.Numerics.{mores}

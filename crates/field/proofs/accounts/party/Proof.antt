@@ -1,3 +1,4 @@
+-- What accounts::party ensures, by the laws of Elevens, Numerics and Picks.
 use borrow.Author.Needs.{needs}
 use borrow.Author.Tests.{eq-eqb, ne-eqb}
 use Rattle.field.proofs.Elevens.{owns, ten-digits}

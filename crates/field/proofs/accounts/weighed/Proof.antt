@@ -1,3 +1,4 @@
+-- What accounts::weighed ensures and its loop keeps, by the laws of Elevens.
 use Prim.Native.Nat.{_-_}
 use lib.ListN.{length}
 use borrow.Author.Needs.{needs}

@@ -1,3 +1,4 @@
+-- What bytes::copy ensures and its loop keeps, by the laws of Putting.
 use Prim.Native.Nat.{_-_}
 use lib.ListN.{length}
 use Rattle.field.proofs.Putting.{puts, Putting}

@@ -1,3 +1,4 @@
+-- What bytes::is_blank ensures and its loop keeps, by the laws of Slices.
 use Prim.Native.Nat.{_-_}
 use lib.ListN.{length}
 use Rattle.machine.specs.Lists.{isSpace}

@@ -1,3 +1,4 @@
+-- What bytes::is_left_justified ensures, by the laws of Slices.
 use borrow.Author.Needs.{needs}
 use Rattle.field.proofs.Slices.{no-first, first-is}
 use Rattle.field.proofs.bytes.is_left_justified.Statement.{statement}

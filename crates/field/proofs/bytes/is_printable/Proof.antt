@@ -1,3 +1,4 @@
+-- What bytes::is_printable ensures and its loop keeps, by the laws of Slices.
 use Prim.Native.Nat.{_-_}
 use lib.ListN.{length}
 use Rattle.format.specs.Fields.{printable}

@@ -1,3 +1,4 @@
+-- What bytes::is_same ensures and its loop keeps, by the laws of Slices.
 use Prim.Native.Nat.{_-_}
 use lib.ListN.{length}
 use Rattle.field.proofs.Slices.{alikes, Alike}

@@ -1,3 +1,4 @@
+-- What bytes::next_line ensures, by the laws of Slices.
 use borrow.Author.Needs.{needs}
 use Rattle.field.proofs.Slices.{nexts}
 use Rattle.field.proofs.bytes.next_line.Statement.{statement}

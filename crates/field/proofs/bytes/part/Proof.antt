@@ -1,3 +1,4 @@
+-- What bytes::part ensures, by the laws of Slices.
 use borrow.Author.Needs.{needs}
 use Rattle.field.proofs.Slices.{parts}
 use Rattle.field.proofs.bytes.part.Statement.{statement}

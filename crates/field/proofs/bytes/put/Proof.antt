@@ -1,3 +1,4 @@
+-- What bytes::put ensures, by the laws of Putting.
 use borrow.Author.Needs.{needs}
 use Rattle.field.proofs.Putting.{fittings}
 use Rattle.field.proofs.bytes.put.Statement.{statement}

@@ -1,3 +1,4 @@
+-- What dates::date ensures, by the laws of Numerics.
 use borrow.Author.Needs.{needs}
 use Rattle.field.proofs.Numerics.{vias}
 use Rattle.field.proofs.dates.date.Statement.{statement}

@@ -1,3 +1,4 @@
+-- What dates::days_in ensures, by the laws of Picks and Days.
 use Rattle.format.specs.Rules.{daysIn}
 use Rattle.field.proofs.Picks.{picks}
 use Rattle.field.proofs.Days.{thirty, thirty-one}

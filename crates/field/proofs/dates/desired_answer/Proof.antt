@@ -1,3 +1,4 @@
+-- What dates::desired_answer ensures, by the laws of Numerics and Picks.
 use borrow.Author.Needs.{needs}
 use borrow.Author.Tests.{eq-eqb, ne-eqb}
 use Rattle.format.specs.Rules.{isDesiredDate}

@@ -1,3 +1,4 @@
+-- What dates::is_date ensures, by the laws of Days.
 use borrow.Author.Needs.{needs}
 use Rattle.field.proofs.Days.{dated}
 use Rattle.field.proofs.dates.is_date.Statement.{statement}

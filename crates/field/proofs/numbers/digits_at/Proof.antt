@@ -1,3 +1,4 @@
+-- What numbers::digits_at ensures, by the laws of Numerics.
 use borrow.Author.Needs.{needs}
 use Rattle.field.specs.Leaf.{digitsOf}
 use Rattle.field.proofs.Numerics.{over}

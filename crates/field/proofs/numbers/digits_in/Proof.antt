@@ -1,3 +1,4 @@
+-- What numbers::digits_in ensures, by the laws of Numerics.
 use borrow.Author.Needs.{needs}
 use Rattle.field.proofs.Numerics.{digits}
 use Rattle.field.proofs.numbers.digits_in.Statement.{statement}

@@ -1,3 +1,4 @@
+-- What numbers::equal_answer ensures, by the laws of Numerics.
 use borrow.Author.Needs.{needs}
 use Rattle.field.proofs.Numerics.{vias}
 use Rattle.field.proofs.numbers.equal_answer.Statement.{statement}

@@ -1,3 +1,4 @@
+-- What numbers::in_range ensures, by the laws of Picks.
 use borrow.Author.Needs.{needs}
 use Rattle.field.specs.Leaf.{rangedBy}
 use Rattle.field.proofs.Picks.{picks}

@@ -1,3 +1,4 @@
+-- What numbers::ranged ensures, by the laws of Numerics.
 use borrow.Author.Needs.{needs}
 use Rattle.field.proofs.Numerics.{range-of}
 use Rattle.field.proofs.numbers.ranged.Statement.{statement}

@@ -1,3 +1,4 @@
+-- What numbers::spelt ensures and its loop keeps, by the laws of Spelling.
 use Rattle.field.proofs.Spelling.{digits, Digiting}
 use Rattle.field.proofs.numbers.spelt.Statement.{statement}
 use Rattle.field.proofs.numbers.spelt.Tie as tie

@@ -1,3 +1,4 @@
+-- What numbers::total_answer ensures, by the laws of Numerics.
 use borrow.Author.Needs.{needs}
 use Rattle.field.proofs.Numerics.{mores}
 use Rattle.field.proofs.numbers.total_answer.Statement.{statement}

@@ -1,3 +1,4 @@
+-- What numbers::value ensures and its loop keeps, by the laws of Numerics.
 use Prim.Native.Nat.{_-_}
 use lib.ListN.{length}
 use Rattle.field.proofs.Numerics.{readings, Reading}

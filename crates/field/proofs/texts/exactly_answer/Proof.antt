@@ -1,3 +1,4 @@
+-- What texts::exactly_answer ensures, by the laws of Forms and Picks.
 use borrow.Author.Needs.{needs}
 use Rattle.field.proofs.Forms.{form-stop, form-on, same-part}
 use Rattle.field.proofs.Picks.{pick-yes, pick-no}

@@ -1,3 +1,4 @@
+-- What texts::free_answer ensures, by the laws of Forms and Picks.
 use borrow.Author.Needs.{needs}
 use Rattle.field.proofs.Forms.{form-yes, form-no}
 use Rattle.field.proofs.Picks.{told}

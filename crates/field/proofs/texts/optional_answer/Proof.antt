@@ -1,3 +1,4 @@
+-- What texts::optional_answer ensures, by the laws of Forms and Picks.
 use borrow.Author.Needs.{needs}
 use Rattle.field.proofs.Forms.{form-yes, blank-prints, optional-filled}
 use Rattle.field.proofs.Picks.{told, both-are, first-holds}

@@ -1,3 +1,4 @@
+-- What Found::is_within ensures.
 use borrow.Author.Needs.{needs}
 use Rattle.items.specs.Answering.{isWithin}
 use Rattle.items.proofs.Found.is_within.Statement.{statement}

@@ -1,3 +1,4 @@
+-- What Found::nothing ensures, by the laws of Searching.
 use borrow.Author.Needs.{needs}
 use Rattle.items.proofs.Searching.{founds}
 use Rattle.items.proofs.Found.nothing.Statement.{statement}

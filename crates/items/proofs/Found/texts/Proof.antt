@@ -1,3 +1,4 @@
+-- What Found::texts ensures, by the laws of Answering.
 use borrow.Author.Needs.{needs}
 use Rattle.items.proofs.Answering.{texts-via}
 use Rattle.items.proofs.Found.texts.Statement.{statement}

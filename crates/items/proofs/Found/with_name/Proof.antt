@@ -1,3 +1,4 @@
+-- What Found::with_name ensures, by the laws of Searching.
 use borrow.Author.Needs.{needs}
 use Rattle.items.proofs.Searching.{founds}
 use Rattle.items.proofs.Found.with_name.Statement.{statement}

@@ -1,3 +1,4 @@
+-- What Search::answered ensures, by the laws of Answering.
 use borrow.Author.Needs.{needs}
 use Rattle.items.proofs.Answering.{limits}
 use Rattle.items.proofs.Search.answered.Statement.{statement}

@@ -1,3 +1,4 @@
+-- What Search::hand_out ensures, by the laws of Answering.
 use borrow.Author.Needs.{needs}
 use Rattle.items.proofs.Answering.{rooms}
 use Rattle.items.proofs.Search.hand_out.Statement.{statement}

@@ -1,3 +1,4 @@
+-- What Search::headed ensures, by the laws of Searching.
 use borrow.Author.Needs.{needs}
 use Rattle.items.proofs.Searching.{search-made}
 use Rattle.items.proofs.Search.headed.Statement.{statement}

@@ -1,3 +1,4 @@
+-- What Search::line ensures, by the laws of field's Picks.
 use borrow.Author.Needs.{needs}
 use Rattle.field.proofs.Picks.{pick-yes, pick-no, told}
 use Rattle.items.specs.Search.{afterLine}

@@ -1,3 +1,4 @@
+-- What Search::named ensures, by the laws of Searching.
 use borrow.Author.Needs.{needs}
 use Rattle.items.proofs.Searching.{texts}
 use Rattle.items.proofs.Search.named.Statement.{statement}

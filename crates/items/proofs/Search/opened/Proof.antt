@@ -1,3 +1,4 @@
+-- What Search::opened ensures, by the laws of Searching.
 use borrow.Author.Needs.{needs}
 use Rattle.items.proofs.Searching.{opens}
 use Rattle.items.proofs.Search.opened.Statement.{statement}

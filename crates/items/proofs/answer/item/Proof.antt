@@ -1,3 +1,4 @@
+-- What answer::item ensures, by the laws of Answering and Promising.
 use borrow.Author.Needs.{needs}
 use Rattle.items.proofs.Answering.{item-via, room-via}
 use Rattle.items.proofs.Promising.{promised-via}

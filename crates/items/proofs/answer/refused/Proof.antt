@@ -1,3 +1,4 @@
+-- What answer::refused ensures, by the laws of Answering.
 use borrow.Author.Needs.{needs}
 use Rattle.items.proofs.Answering.{answered-with}
 use Rattle.items.proofs.answer.refused.Statement.{statement}

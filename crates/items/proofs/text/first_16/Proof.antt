@@ -1,3 +1,4 @@
+-- What text::first_16 ensures, by the laws of Filling.
 use borrow.Author.Needs.{needs}
 use Rattle.items.proofs.Filling.{firsts}
 use Rattle.items.proofs.text.first_16.Statement.{statement}

@@ -1,3 +1,4 @@
+-- What State::judge_first ensures, by the laws of Judgements and Limits.
 use borrow.Author.Needs.{needs}
 use Rattle.reading.proofs.Judgements.{firsts}
 use Rattle.reading.proofs.Limits.{limits}
@@ -8,15 +9,15 @@ pub judge-first-spec : {M : Type 1} → statement M
 judge-first-spec =
     tie.close
     (tie.spec
-    (λ c κs. search needs)
-    (λ c. search (firsts, limits) depth 20 fits 10000)
-    (λ c κs. search needs)
-    (λ c κs. search needs)
-    (λ c. search (firsts, limits) depth 20 fits 10000)
-    (λ c κs. search needs)
-    (λ c κs. search needs)
-    (λ c κs. search needs)
-    (λ c κs. search needs)
-    (λ c. search (firsts, limits) depth 20 fits 10000)
-    (λ c. search (firsts, limits) depth 20 fits 10000)
+    (λ c κs. search needs)  -- refused-requires
+    (λ c. search (firsts, limits) depth 20 fits 10000)  -- returns
+    (λ c κs. search needs)  -- is-stage-requires
+    (λ c κs. search needs)  -- refused-requires-2
+    (λ c. search (firsts, limits) depth 20 fits 10000)  -- returns-2
+    (λ c κs. search needs)  -- cut-of-requires
+    (λ c κs. search needs)  -- part-requires
+    (λ c κs. search needs)  -- judge-requires
+    (λ c κs. search needs)  -- refused-requires-3
+    (λ c. search (firsts, limits) depth 20 fits 10000)  -- returns-3
+    (λ c. search (firsts, limits) depth 20 fits 10000)  -- returns-4
     )

@@ -1,3 +1,4 @@
+-- What State::line ensures, by the laws of Answers.
 use borrow.Author.Needs.{needs}
 use Rattle.reading.proofs.Answers.{step-none, step-refused, step-taken, line-named}
 use Rattle.reading.proofs.State.line.Statement.{statement}

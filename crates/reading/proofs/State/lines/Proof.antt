@@ -1,3 +1,4 @@
+-- What State::lines ensures, by the laws of Limits and field's Picks.
 use borrow.Author.Needs.{needs}
 use Rattle.reading.proofs.Limits.{within-limited}
 use Rattle.field.proofs.Picks.{picks}
@@ -10,9 +11,9 @@ unfolding judgedLines
 lines-spec =
     tie.close
     (tie.spec
-    (λ c κs. search needs)
-    (λ c κs. search within-limited)
-    (λ c κs. search needs)
-    (λ c. search picks depth 20 fits 10000)
-    (λ c. search picks depth 20 fits 10000)
+    (λ c κs. search needs)  -- is-within-requires
+    (λ c κs. search within-limited)  -- run-requires
+    (λ c κs. search needs)  -- refused-requires
+    (λ c. search picks depth 20 fits 10000)  -- returns
+    (λ c. search picks depth 20 fits 10000)  -- returns-2
     )

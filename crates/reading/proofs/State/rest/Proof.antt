@@ -1,3 +1,4 @@
+-- What State::rest ensures, by the laws of Answers.
 use borrow.Author.Needs.{needs}
 use Rattle.reading.proofs.Answers.{rest-named, rest-stop, rest-end}
 use Rattle.reading.proofs.State.rest.Statement.{statement}

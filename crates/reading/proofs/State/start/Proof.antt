@@ -1,3 +1,4 @@
+-- What State::start ensures, by the laws of Orders.
 use borrow.Author.Needs.{needs}
 use Rattle.reading.proofs.Orders.{started}
 use Rattle.reading.proofs.State.start.Statement.{statement}
@@ -7,8 +8,8 @@ pub start-spec : {M : Type 1} → statement M
 start-spec =
     tie.close
     (tie.spec
-    (λ c κs. search needs)
-    (λ c κs. search needs)
-    (λ c κs. search needs)
-    (λ c. search started depth 20 fits 10000)
+    (λ c κs. search needs)  -- nothing-requires
+    (λ c κs. search needs)  -- empty-requires
+    (λ c κs. search needs)  -- no-item-requires
+    (λ c. search started depth 20 fits 10000)  -- returns
     )

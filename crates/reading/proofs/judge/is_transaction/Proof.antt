@@ -1,3 +1,4 @@
+-- What judge::is_transaction ensures, by the laws of record's Typing.
 use borrow.Author.Needs.{needs}
 use Rattle.record.specs.Kinds.{isTransaction}
 use Rattle.record.proofs.Typing.{of-case}

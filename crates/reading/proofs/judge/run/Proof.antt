@@ -1,3 +1,4 @@
+-- What judge::run ensures and its loop keeps, by the laws of format's Cutting, Running and Judgements.
 use borrow.Author.Needs.{needs}
 use Prim.Native.Nat.{_-_}
 use lib.ListN.{length}
@@ -20,13 +21,13 @@ run-spec =
     (tie.spec
     Inv-loop
     μ-loop
-    (λ c κs. search needs)
-    (λ c. search runs depth 20 fits 10000)
-    (λ c κs. search needs)
-    (λ c κs. search needs)
-    (λ c. search runs depth 20 fits 10000)
-    (λ c. search needs)
-    (λ c. search line-less)
-    (λ c. (search limited-after depth 20 fits 10000, run-more (c .before .before .before .before .before .loop .inv .1) (c .before .before .before .before .loop-test .taken) (c .before .before .before .next-line .ensures) (c .before .before .then .ensures) (c .if1 .left)))
-    (λ c. search runs depth 20 fits 10000)
+    (λ c κs. search needs)  -- refused-requires
+    (λ c. search runs depth 20 fits 10000)  -- loop-holds
+    (λ c κs. search needs)  -- next-line-requires
+    (λ c κs. search needs)  -- then-requires
+    (λ c. search runs depth 20 fits 10000)  -- returns
+    (λ c. search needs)  -- add-at
+    (λ c. search line-less)  -- loop-less
+    (λ c. (search limited-after depth 20 fits 10000, run-more (c .before .before .before .before .before .loop .inv .1) (c .before .before .before .before .loop-test .taken) (c .before .before .before .next-line .ensures) (c .before .before .then .ensures) (c .if1 .left)))  -- loop-again
+    (λ c. search runs depth 20 fits 10000)  -- returns-2
     )

@@ -1,3 +1,4 @@
+-- What line::refusal_line ensures, by the laws of field's Picks and Answers.
 use borrow.Author.Tests.{eq-eqb, ne-eqb}
 use Rattle.field.proofs.Picks.{pick-yes, pick-no}
 use Rattle.reading.proofs.Answers.{named-fits}

@@ -1,3 +1,4 @@
+-- What order::may_fix ensures, by the laws of Orders.
 use borrow.Author.Needs.{needs}
 use Rattle.reading.proofs.Orders.{orders}
 use Rattle.reading.specs.Order.{mayFix}
@@ -9,6 +10,6 @@ unfolding mayFix
 may-fix-spec =
     tie.close
     (tie.spec
-    (λ c κs. search needs)
-    (λ c. search orders depth 20 fits 10000)
+    (λ c κs. search needs)  -- is-stage-requires
+    (λ c. search orders depth 20 fits 10000)  -- returns
     )

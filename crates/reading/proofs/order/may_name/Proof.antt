@@ -1,3 +1,4 @@
+-- What order::may_name ensures, by the laws of Orders.
 use borrow.Author.Needs.{needs}
 use Rattle.reading.proofs.Orders.{orders}
 use Rattle.reading.specs.Order.{mayName}
@@ -9,8 +10,8 @@ unfolding mayName
 may-name-spec =
     tie.close
     (tie.spec
-    (λ c κs. search needs)
-    (λ c κs. search needs)
-    (λ c κs. search needs)
-    (λ c. search orders depth 20 fits 10000)
+    (λ c κs. search needs)  -- is-stage-requires
+    (λ c κs. search needs)  -- is-same-group-requires
+    (λ c κs. search needs)  -- is-name-requires
+    (λ c. search orders depth 20 fits 10000)  -- returns
     )

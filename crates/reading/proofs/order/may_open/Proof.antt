@@ -1,3 +1,4 @@
+-- What order::may_open ensures, by the laws of Orders.
 use borrow.Author.Needs.{needs}
 use Rattle.reading.proofs.Orders.{orders}
 use Rattle.reading.specs.Order.{mayOpen}
@@ -9,7 +10,7 @@ unfolding mayOpen
 may-open-spec =
     tie.close
     (tie.spec
-    (λ c κs. search needs)
-    (λ c κs. search needs)
-    (λ c. search orders depth 20 fits 10000)
+    (λ c κs. search needs)  -- is-stage-requires
+    (λ c κs. search needs)  -- is-stage-requires-2
+    (λ c. search orders depth 20 fits 10000)  -- returns
     )

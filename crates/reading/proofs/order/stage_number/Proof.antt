@@ -1,3 +1,4 @@
+-- What order::stage_number ensures, by the laws of record's Typing.
 use borrow.Author.Needs.{needs}
 use Rattle.reading.specs.Order.{stageNumber}
 use Rattle.record.proofs.Typing.{of-case}

@@ -1,3 +1,4 @@
+-- What step::after_text ensures, by the laws of record's Typing.
 use borrow.Author.Needs.{needs}
 use Rattle.reading.specs.Step.{afterText}
 use Rattle.record.proofs.Typing.{of-case}

@@ -1,3 +1,4 @@
+-- What step::opened_item ensures, by the laws of Moves.
 use borrow.Author.Needs.{needs}
 use Rattle.reading.proofs.Moves.{item-made}
 use Rattle.reading.proofs.step.opened_item.Statement.{statement}
@@ -7,7 +8,7 @@ pub opened-item-spec : {M : Type 1} → statement M
 opened-item-spec =
     tie.close
     (tie.spec
-    (λ c κs. search needs)
-    (λ c κs. search needs)
-    (λ c. search item-made depth 20 fits 10000)
+    (λ c κs. search needs)  -- needs-name-requires
+    (λ c κs. search needs)  -- name-if-requires
+    (λ c. search item-made depth 20 fits 10000)  -- returns
     )

@@ -1,3 +1,4 @@
+-- What kinds::batch_kind ensures, by the laws of field's Picks.
 use borrow.Author.Needs.{needs}
 use Rattle.record.specs.Kinds.{batchCode}
 use Rattle.field.proofs.Picks.{pick-yes, pick-no, told}

@@ -1,3 +1,4 @@
+-- What kinds::code_of ensures, by the laws of field's Numerics.
 use borrow.Author.Needs.{needs}
 use Rattle.record.specs.Kinds.{codeOf}
 use Rattle.field.proofs.Numerics.{over}

@@ -1,3 +1,4 @@
+-- What kinds::kind_in ensures, by the laws of field's Picks.
 use borrow.Author.Needs.{needs}
 use Rattle.record.specs.Kinds.{codeOf}
 use Rattle.field.proofs.Picks.{pick-yes, pick-no, told}

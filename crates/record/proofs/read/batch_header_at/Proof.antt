@@ -1,3 +1,4 @@
+-- What read::batch_header_at ensures, by the laws of Reading.
 use borrow.Author.Needs.{needs}
 use Rattle.record.proofs.Reading.{header-made}
 use Rattle.record.proofs.read.batch_header_at.Statement.{statement}

@@ -1,3 +1,4 @@
+-- What read::item_at ensures, by the laws of Reading.
 use borrow.Author.Needs.{needs}
 use Rattle.record.proofs.Reading.{item-via}
 use Rattle.record.proofs.read.item_at.Statement.{statement}

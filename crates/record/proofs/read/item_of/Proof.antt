@@ -1,3 +1,4 @@
+-- What read::item_of ensures, by the laws of Reading.
 use borrow.Author.Needs.{needs}
 use Rattle.record.proofs.Reading.{item-made}
 use Rattle.record.proofs.read.item_of.Statement.{statement}

@@ -1,3 +1,4 @@
+-- What read::ordering_party_at ensures, by the laws of Reading.
 use borrow.Author.Needs.{needs}
 use Rattle.record.proofs.Reading.{same-of}
 use Rattle.record.proofs.read.ordering_party_at.Statement.{statement}

@@ -1,3 +1,4 @@
+-- What read::record_in ensures, by the laws of Reading.
 use borrow.Author.Needs.{needs}
 use Rattle.record.proofs.Reading.{record-via}
 use Rattle.record.proofs.read.record_in.Statement.{statement}

@@ -1,3 +1,4 @@
+-- What read::transaction_at ensures, by the laws of Reading.
 use borrow.Author.Needs.{needs}
 use Rattle.record.proofs.Reading.{transaction-made}
 use Rattle.record.proofs.read.transaction_at.Statement.{statement}

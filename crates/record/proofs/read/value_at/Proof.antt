@@ -1,3 +1,4 @@
+-- What read::value_at ensures, by the laws of Reading.
 use borrow.Author.Needs.{needs}
 use Rattle.record.proofs.Reading.{value-of}
 use Rattle.record.proofs.read.value_at.Statement.{statement}

@@ -1,3 +1,4 @@
+-- What types::group_answer ensures, by the laws of field's Forms and Typing.
 use borrow.Author.Needs.{needs}
 use Rattle.field.proofs.Forms.{form-stop, form-on}
 use Rattle.record.proofs.Typing.{group-wrong, group-free, group-right, group-other}

@@ -1,3 +1,4 @@
+-- What types::group_in ensures, by the laws of field's Forms and field's Picks.
 use borrow.Author.Needs.{needs}
 use Rattle.field.proofs.Forms.{same-part}
 use Rattle.field.proofs.Picks.{pick-yes, pick-no}

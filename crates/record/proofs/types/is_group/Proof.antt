@@ -1,3 +1,4 @@
+-- What types::is_group ensures, by the laws of field's Picks.
 use borrow.Author.Needs.{needs}
 use Rattle.field.proofs.Picks.{ands, told}
 use Rattle.record.proofs.types.is_group.Statement.{statement}

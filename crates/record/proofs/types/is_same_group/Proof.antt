@@ -1,3 +1,4 @@
+-- What types::is_same_group ensures, by the laws of Typing.
 use borrow.Author.Needs.{needs}
 use Rattle.record.proofs.Typing.{same-case}
 use Rattle.record.proofs.types.is_same_group.Statement.{statement}

@@ -1,3 +1,4 @@
+-- What types::is_unchecked ensures, by the laws of Typing.
 use borrow.Author.Needs.{needs}
 use Rattle.format.specs.Rules.{isUnchecked}
 use Rattle.record.proofs.Typing.{of-case}

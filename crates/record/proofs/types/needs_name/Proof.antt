@@ -1,3 +1,4 @@
+-- What types::needs_name ensures, by the laws of Typing.
 use borrow.Author.Needs.{needs}
 use Rattle.record.proofs.Typing.{names}
 use Rattle.record.proofs.types.needs_name.Statement.{statement}

@@ -1,3 +1,4 @@
+-- What types::type_answer ensures, by the laws of field's Forms.
 use borrow.Author.Needs.{needs}
 use Rattle.field.proofs.Forms.{form-stop, form-on}
 use Rattle.record.proofs.types.type_answer.Statement.{statement}

@@ -1,3 +1,4 @@
+-- What types::type_fault ensures, by the laws of Typing.
 use borrow.Author.Needs.{needs}
 use Rattle.record.proofs.Typing.{types}
 use Rattle.record.proofs.types.type_fault.Statement.{statement}

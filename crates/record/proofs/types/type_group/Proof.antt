@@ -1,3 +1,4 @@
+-- What types::type_group ensures, by the laws of Typing.
 use borrow.Author.Needs.{needs}
 use Rattle.format.specs.Rules.{typeGroup}
 use Rattle.record.proofs.Typing.{of-case}

@@ -1,3 +1,4 @@
+-- What types::type_in ensures, by the laws of field's Numerics.
 use borrow.Author.Needs.{needs}
 use Rattle.format.specs.Rules.{typeOf}
 use Rattle.field.proofs.Numerics.{over}

@@ -1,3 +1,4 @@
+-- What types::type_of ensures, by the laws of field's Picks.
 use borrow.Author.Needs.{needs}
 use Rattle.format.specs.Rules.{typeOf}
 use Rattle.field.proofs.Picks.{pick-yes, pick-no, told}

@@ -1,3 +1,4 @@
+-- What fields::is_within ensures and its loop keeps, by the laws of Putting.
 use mathlib.Core.Path.{_≡_}
 use lib.Dec.{ltb}
 use Rattle.machine.specs.Digits.{pow10}

@@ -1,3 +1,4 @@
+-- What fields::put_blank ensures, by the laws of field's Picks.
 use borrow.Author.Needs.{needs}
 use Rattle.field.proofs.Picks.{picks}
 use Rattle.writer.proofs.fields.put_blank.Statement.{statement}

@@ -1,3 +1,4 @@
+-- What fields::put_test ensures, by the laws of Putting.
 use borrow.Author.Needs.{needs}
 use Rattle.writer.proofs.Putting.{test-via}
 use Rattle.writer.proofs.fields.put_test.Statement.{statement}

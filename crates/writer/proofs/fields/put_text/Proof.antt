@@ -1,3 +1,4 @@
+-- What fields::put_text ensures, by the laws of Putting.
 use borrow.Author.Needs.{needs}
 use Rattle.writer.proofs.Putting.{carries}
 use Rattle.writer.proofs.fields.put_text.Statement.{statement}

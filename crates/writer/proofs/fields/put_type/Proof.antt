@@ -1,3 +1,4 @@
+-- What fields::put_type ensures, by the laws of Putting.
 use borrow.Author.Needs.{needs}
 use Rattle.writer.proofs.Putting.{given-text}
 use Rattle.writer.proofs.fields.put_type.Statement.{statement}

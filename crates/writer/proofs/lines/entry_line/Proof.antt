@@ -1,3 +1,4 @@
+-- What lines::entry_line ensures, by the laws of Building.
 use borrow.Author.Needs.{needs}
 use Rattle.writer.proofs.Building.{entries}
 use Rattle.writer.proofs.lines.entry_line.Statement.{statement}

@@ -1,3 +1,4 @@
+-- What lines::file_header ensures, by the laws of Building.
 use borrow.Author.Needs.{needs}
 use Rattle.writer.proofs.Building.{builds}
 use Rattle.writer.proofs.lines.file_header.Statement.{statement}

@@ -1,3 +1,4 @@
+-- What lines::Lines::next ensures, by the laws of Taking.
 use borrow.Author.Needs.{needs}
 use Rattle.streams.proofs.Taking.{nexts, next-inside}
 use Rattle.streams.proofs.lines.Lines.next.Statement.{statement}
