@@ -1,3 +1,4 @@
+-- What answered ensures, by the laws of Answers.
 use borrow.Author.Needs.{needs}
 use Rattle.checking.proofs.Answers.{answers}
 use Rattle.checking.proofs.answered.Statement.{statement}

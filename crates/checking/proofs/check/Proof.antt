@@ -1,3 +1,4 @@
+-- What check ensures and its loop keeps, by the laws of Answers.
 use borrow.Author.Needs.{needs}
 use mathlib.Core.Path.{_≡_}
 use lib.ListN.{length}
