@@ -1,6 +1,8 @@
 pub mod Places
 pub mod Faults
 pub mod Lines
+pub mod Printable
+pub mod Groups
 pub mod Reach
 pub mod Reached
 pub mod Run

@@ -99,7 +99,7 @@ module _ (z : Ending) (c : List ℕ) (h : Line (endBytes z) c) (r : List ℕ) wh
   next-is : nextLine (c ++ r) ≡ c
   next-is = ap (λ (k : Cut). take (k .bytes) (c ++ r)) line-first ∙ take-at c r (length c) refl
 
-  after-is : afterNext (c ++ r) ≡ r
+  pub after-is : afterNext (c ++ r) ≡ r
   after-is = ap (λ (k : Cut). drop (k .bytes) (c ++ r)) line-first ∙ drop-at c r (length c) refl
 
   -- THE CUT OF A LINE, whatever follows it

@@ -1,5 +1,10 @@
 -- What holds of each kind of record holds of every one: a table of fourteen facts in one line. Assumes nothing.
+use mathlib.Core.Path.{_≡_, sym}
 use mathlib.Core.List.{List, [], _∷_}
+use mathlib.Core.Bool.{Bool, true, false, _||_}
+use Rattle.machine.specs.Lists.{same}
+use Rattle.machine.proofs.Base.{true≢false}
+use Rattle.format.specs.Records.{code}
 use Rattle.format.specs.declared.Kind.{Kind}
 use Rattle.format.specs.declared.Kind.the-variants.{FileHeader, BatchHeaderB, BatchHeaderC, FixedDescription, OrderingParty, Transaction, NamePayer, CityPayer, PaymentReference, Description, NameBeneficiary, CityBeneficiary, BatchTrailer, FileTrailer}
 
@@ -22,3 +27,23 @@ every P a b c d e f g h i j l m n o NameBeneficiary = l
 every P a b c d e f g h i j l m n o CityBeneficiary = m
 every P a b c d e f g h i j l m n o BatchTrailer = n
 every P a b c d e f g h i j l m n o FileTrailer = o
+
+-- one of some kinds, by their codes
+abbrev pub oneOf : List Kind → Kind → Bool
+oneOf [] k = false
+oneOf (m ∷ ms) k = same (code m) (code k) || oneOf ms k
+
+-- a batch header is one of two kinds
+pub data Header : Kind → Type 0 where
+  variant-b : Header BatchHeaderB
+  variant-c : Header BatchHeaderC
+
+abbrev pub headers : List Kind
+headers = BatchHeaderB ∷ BatchHeaderC ∷ []
+
+other : {A : Type 0} → false ≡ true → A
+other e = absurd (true≢false (sym e))
+
+pub header-of : (k : Kind) → oneOf headers k ≡ true → Header k
+unfolding same
+header-of = every (λ k. oneOf headers k ≡ true → Header k) other (λ e. variant-b) (λ e. variant-c) other other other other other other other other other other other

@@ -193,7 +193,7 @@ module _ {p : Phase} {k : Kind} (pl : Place p k) (s : Context) (x : Fields k) (o
   line-body : (z : List ℕ) → take 45 (drop 5 (lineOf z (k, x))) ≡ writeFields (layout k) x
   line-body z = ap (take 45) (line-rest z) ∙ take-at (writeFields (layout k) x) z 45 body-length
 
-  line-end : (z : List ℕ) → drop 50 (lineOf z (k, x)) ≡ z
+  pub line-end : (z : List ℕ) → drop 50 (lineOf z (k, x)) ≡ z
   line-end z = sym (drop-drop 45 5 (lineOf z (k, x))) ∙ ap (drop 45) (line-rest z) ∙ drop-at (writeFields (layout k) x) z 45 body-length
 
   pub line-after : (z r : List ℕ) → drop 50 (lineOf z (k, x) ++ r) ≡ z ++ r

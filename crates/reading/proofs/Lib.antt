@@ -1,7 +1,10 @@
 pub mod Orders
+pub mod Standing
 pub mod Limits
 pub mod Running
+pub mod Runs
 pub mod Verdicts
 pub mod Answers
+pub mod Slices
 pub mod Moves
 pub mod Judgements

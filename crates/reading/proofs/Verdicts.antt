@@ -11,9 +11,9 @@ use Rattle.machine.specs.Lists.{pick}
 use Rattle.format.specs.Records.{Fields}
 use Rattle.format.specs.Cutting.{cutOf}
 use Rattle.format.specs.declared.Kind.{Kind}
-use Rattle.format.specs.declared.Kind.the-variants.{FileHeader, BatchHeaderB, BatchHeaderC, FixedDescription, OrderingParty, Transaction, NamePayer, CityPayer, PaymentReference, Description, NameBeneficiary, CityBeneficiary, BatchTrailer, FileTrailer}
 use Rattle.format.specs.declared.Code.{Code}
 use Rattle.format.specs.declared.Code.the-variants.{Of, Unknown}
+use Rattle.format.proofs.Every.{every}
 use Rattle.record.specs.Kinds.{codeOf}
 use Rattle.record.specs.Faults.{fieldsOf, faultOf}
 use Rattle.record.specs.declared.Fault.{Fault}
@@ -25,20 +25,7 @@ use Rattle.reading.specs.declared.Judged.{Judged}
 
 -- a record that is taken is one line
 pub next-line : (s : State) (k : Kind) (x : Fields k) → nextFor s k x .line ≡ s .line + 1
-next-line s FileHeader x = refl
-next-line s BatchHeaderB x = refl
-next-line s BatchHeaderC x = refl
-next-line s FixedDescription x = refl
-next-line s OrderingParty x = refl
-next-line s Transaction x = refl
-next-line s NamePayer x = refl
-next-line s CityPayer x = refl
-next-line s PaymentReference x = refl
-next-line s Description x = refl
-next-line s NameBeneficiary x = refl
-next-line s CityBeneficiary x = refl
-next-line s BatchTrailer x = refl
-next-line s FileTrailer x = refl
+next-line s = every (λ k. (x : Fields k) → nextFor s k x .line ≡ s .line + 1) (λ x. refl) (λ x. refl) (λ x. refl) (λ x. refl) (λ x. refl) (λ x. refl) (λ x. refl) (λ x. refl) (λ x. refl) (λ x. refl) (λ x. refl) (λ x. refl) (λ x. refl) (λ x. refl)
 
 pub data Verdict (s : State) (line : List ℕ) : Judged → Type 0 where
   stopped : (c n : ℕ) → (n ≡ 0 → ⊥) → Verdict s line (refused s c n)

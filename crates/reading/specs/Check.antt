@@ -6,8 +6,9 @@ use Rattle.machine.specs.Lists.{pick}
 use Rattle.format.specs.Answers.{accepted, beyondLimits}
 use Rattle.format.specs.Cutting.{linesIn}
 use Rattle.format.specs.declared.Answer.{Answer}
+use Rattle.record.specs.declared.Record.{Record}
 use Rattle.reading.specs.State.{startState, within}
-use Rattle.reading.specs.Step.{refused, judgedFirst, refusalBy, endedAt}
+use Rattle.reading.specs.Step.{refused, judgedFirst, refusalBy, endedAt, stepAt}
 use Rattle.reading.specs.declared.State.{State}
 use Rattle.reading.specs.declared.Judged.{Judged}
 
@@ -31,3 +32,14 @@ restOf s xs = answerBy (judgedLines s xs)
 
 unfoldable pub checkOf : List ℕ → Answer
 checkOf file = restOf startState file
+
+-- the records of some lines from a state on, each with its text, up to the first line that is refused
+unfoldable pub recordsAfter : State → List (List ℕ) → List (Record × List ℕ)
+recordsAfter s [] = []
+recordsAfter s (line ∷ lines) =
+    let r = stepAt s line in
+    pick (eqb (r .answer .number) accepted) ((r .read, r .text) ∷ recordsAfter (r .next) lines) []
+
+-- those of a whole file
+unfoldable pub recordsOf : List ℕ → List (Record × List ℕ)
+recordsOf file = recordsAfter startState (linesIn file)

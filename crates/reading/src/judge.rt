@@ -9,9 +9,7 @@ ghost use Rattle.record.specs.Kinds.{isTransaction};
 ghost use Rattle.reading.specs.Step.{refused, judgedAs, judgedKind, judgedLine, judgedFirst};
 ghost use Rattle.reading.specs.Check.{judgedAfter, judgedLines};
 use crate::Judged;
-use crate::Stage;
 use crate::State;
-use crate::order::is_stage;
 use field::bytes::next_line;
 use field::bytes::part;
 use format::Code;
@@ -138,11 +136,10 @@ impl State {
         requires { ⌜ Limited self ⌝ }
         ensures { λ r. ⌜ r ≡ judgedFirst self (now (rest .entry)) ⌝ }
     {
-        let stage = self.stage;
         if State::MAX_LINE < self.line {
             return self.refused(format::BEYOND_LIMITS, 0);
         }
-        if is_stage(stage, Stage::Done) {
+        if self.is_done() {
             return self.refused(format::AFTER_TRAILER, 0);
         }
         let cut = cut_of(rest);
@@ -156,7 +153,7 @@ impl State {
 
 impl State {
     // All lines of some bytes, up to the first that is refused.
-    pub(crate) fn lines(self, bytes: &[u8]) -> Judged
+    pub fn lines(self, bytes: &[u8]) -> Judged
         ensures { λ r. ⌜ r ≡ judgedLines self (now (bytes .entry)) ⌝ }
     {
         if is_within(self) {

@@ -4,10 +4,8 @@ ghost use Prim.Native.Nat.{_+_, _≤_};
 ghost use Rattle.reading.specs.State.{maxLine};
 ghost use Rattle.reading.specs.Step.{refusalLine, nothingRead, endedAt, stepAt};
 use crate::LineRead;
-use crate::Stage;
 use crate::State;
 use crate::judge::is_within;
-use crate::order::is_stage;
 use field::bytes::next_line;
 use field::bytes::part;
 use format::Answer;
@@ -43,10 +41,9 @@ impl State {
     pub(crate) fn ended(self) -> Answer
         ensures { λ r. ⌜ r ≡ endedAt self ⌝ }
     {
-        let stage = self.stage;
         let line = self.line;
         if is_within(self) {
-            if is_stage(stage, Stage::Done) {
+            if self.is_done() {
                 return Answer::accepted(line);
             }
             return Answer::refusal(format::ENDS_EARLY, line + 1, 0);

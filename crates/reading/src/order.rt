@@ -1,5 +1,6 @@
 // The order of records: which kind may stand in a state.
 ghost use mathlib.Core.Path.{_≡_};
+ghost use Rattle.reading.specs.Step.{isDone};
 ghost use Rattle.reading.specs.Order.{stageNumber, isStage, nameNumber, isName, mayOpen, mayFix, mayEnd, mayPay, mayName, textsBy, mayText, mayRefer, mayDescribe, allowed};
 use crate::Name;
 use crate::Stage;
@@ -23,7 +24,7 @@ fn stage_number(p: Stage) -> u64
     }
 }
 
-pub(crate) fn is_stage(a: Stage, b: Stage) -> bool
+fn is_stage(a: Stage, b: Stage) -> bool
     ensures { λ r. ⌜ r ≡ isStage a b ⌝ }
 {
     stage_number(a) == stage_number(b)
@@ -104,6 +105,14 @@ fn may_describe(p: Stage, g: Group, n: Name, reference: bool, descriptions: u64)
 }
 
 impl State {
+    // After the file trailer.
+    pub fn is_done(self) -> bool
+        ensures { λ r. ⌜ r ≡ isDone self ⌝ }
+    {
+        let stage = self.stage;
+        is_stage(stage, Stage::Done)
+    }
+
     pub(crate) fn allows(self, k: Kind) -> bool
         ensures { λ r. ⌜ r ≡ allowed self k ⌝ }
     {

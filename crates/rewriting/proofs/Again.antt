@@ -36,13 +36,14 @@ use Rattle.reading.specs.declared.State.{State}
 use Rattle.reading.specs.declared.Judged.{Judged}
 use Rattle.reading.specs.declared.LineRead.{LineRead}
 use Rattle.reading.proofs.Running.{first-own, goingOn}
+use Rattle.reading.proofs.Runs.{nextBy, Runs, no-more, line, Ended, ended-zero, judged, ended-file, runs-file}
+use Rattle.reading.proofs.Slices.{step-own}
 use Rattle.reading.proofs.Verdicts.{Taken, takes}
 use Rattle.writer.specs.Entries.{lineFor}
 use Rattle.writer.specs.Writing.{answered, writtenOf}
 use Rattle.writer.specs.Promises.{entryOf}
 use Rattle.writer.specs.declared.Entry.{Entry}
 use Rattle.writer.specs.declared.Written.{Written}
-use Rattle.writer.proofs.Accepting.{step-front}
 use Rattle.writer.proofs.Again.{written-again}
 use Rattle.file.proofs.Meaning.{means}
 use Rattle.record.specs.Kinds.{isCity}
@@ -67,35 +68,6 @@ pub same-file : (file : List ℕ) → noCity (linesIn file) ≡ true → without
 unfolding withoutCities
 same-file file h = no-city (lined 0 file) h
 
--- ## Lines that are all taken
-
-abbrev nextBy : State → Kind → List ℕ → State
-nextBy s k xs = nextFor s k (fieldsOf k (take 50 xs))
-
--- bytes whose lines are each taken, from one state to the last
-data Read : State → List ℕ → List (List ℕ) → State → Type 0 where
-  no-more : {s : State} → Read s [] [] s
-  line : {s u : State} {x : ℕ} {xs : List ℕ} {lines : List (List ℕ)} (t : Taken s (x ∷ xs)) → Read (nextBy s (t .kind) (x ∷ xs)) (afterNext (x ∷ xs)) lines u → Read s (x ∷ xs) (nextLine (x ∷ xs) ∷ lines) u
-
-first-zero : (f : Judged) (lines : List (List ℕ)) → goingOn f lines .number ≡ 0 → f .number ≡ 0
-unfolding pick
-first-zero f lines z = on (eqb (f .number) 0) refl z
-  where
-    on : (q : Bool) → eqb (f .number) 0 ≡ q → pick q (judgedAfter f lines) f .number ≡ 0 → f .number ≡ 0
-    on true e z = eqb-true (f .number) 0 e
-    on false e z = z
-
-all-taken : (j : Judged) {xs : List ℕ} {lines : List (List ℕ)} → Lined xs lines → judgedAfter j lines .number ≡ 0 → Read (j .next) xs lines (judgedAfter j lines .next)
-unfolding judgedAfter pick
-all-taken j no-line z = no-more
-all-taken j (one-line {x} {xs} {lines} r) z =
-    let s = j .next in
-    let d = first-own s (x ∷ xs) in
-    let t = takes s (x ∷ xs) (sym (ap (λ (i : Judged). i .number) d) ∙ first-zero (judgedFirst s (nextLine (x ∷ xs))) lines z) in
-    let e = d ∙ t .is in
-    subst (λ (i : Judged). Read s (x ∷ xs) (nextLine (x ∷ xs) ∷ lines) (goingOn i lines .next)) (sym e)
-    (line t (all-taken (taken (t .kind) (nextBy s (t .kind) (x ∷ xs))) r (subst (λ (i : Judged). goingOn i lines .number ≡ 0) e z)))
-
 -- ## Accepted again
 
 record Follows (s : State) (i : Judged) : Type 0 where
@@ -112,7 +84,7 @@ module _ {s : State} {xs : List ℕ} (t : Taken s xs) (i : Judged) (p : Follows 
       (subst (λ (v : Judged). Follows u (goingOn v (linesIn rest))) (sym (first-own (i .next) xs ∙ taken-too (p .next) t c))
       (f (taken (t .kind) (nextBy (i .next) (t .kind) xs)) (record { number = refl; next = behind-too (p .next) t c })))
 
-follows : {s u : State} {xs : List ℕ} {lines : List (List ℕ)} → Read s xs lines u → (i : Judged) → Follows s i → Follows u (judgedAfter i (linesIn (keptOf lines)))
+follows : {s u : State} {xs : List ℕ} {lines : List (List ℕ)} → Runs s xs lines u → (i : Judged) → Follows s i → Follows u (judgedAfter i (linesIn (keptOf lines)))
 unfolding judgedAfter linesFrom keptOf keptLine
 follows no-more i p = p
 follows {u = u} (line {x = x} {xs} {lines} t r) i p = line-on t i p (keptOf lines) u (λ v q. follows r v q) (isCity (nextLine (x ∷ xs))) refl
@@ -121,27 +93,6 @@ follows {u = u} (line {x = x} {xs} {lines} t r) i p = line-on t i p (keptOf line
 
 start-behind : Behind startState startState
 start-behind = record { line = 0; name = Unwanted; is = refl; small = omega arith; like = alike refl }
-
-record Ended (j : Judged) : Type 0 where
-  pub number : j .number ≡ 0
-  pub limits : within (j .next) ≡ true
-  pub done : isDone (j .next) ≡ true
-
-ends : (j : Judged) → answerBy j .number ≡ 0 → Ended j
-unfolding endedAt pick
-ends j z = on (eqb (j .number) 0) (within (j .next)) (isDone (j .next)) refl refl refl z
-  where
-    on : (a b c : Bool) → eqb (j .number) 0 ≡ a → within (j .next) ≡ b → isDone (j .next) ≡ c
-        → pick a (pick b (pick c (acceptance (j .next .line)) (refusal 10 (j .next .line + 1) 0)) (refusal 24 0 0)) (refusalBy j) .number ≡ 0
-        → Ended j
-    on true true true a b c z = record { number = eqb-true (j .number) 0 a; limits = b; done = c }
-    on true true false a b c z = absurd (omega arith)
-    on true false q a b c z = absurd (omega arith)
-    on false p q a b c z = absurd (subst T (sym (eq-eqb (j .number) 0 z) ∙ a) tt)
-
-ended-zero : (i : Judged) → Ended i → answerBy i .number ≡ 0
-unfolding endedAt pick
-ended-zero i e = rw (eq-eqb (i .number) 0 (e .number), e .limits, e .done)
 
 ended-behind : (j i : Judged) → Ended j → Follows (j .next) i → Ended i
 ended-behind j i e p =
@@ -152,21 +103,10 @@ ended-behind j i e p =
       done = subst (λ u. isDone u ≡ true) (sym (b .is)) (e .done);
     }
 
--- an accepted file's lines
-abbrev judged : List ℕ → Judged
-judged file = judgedAfter (refused startState 0 0) (linesIn file)
-
-ended-file : (file : List ℕ) → checkOf file .number ≡ 0 → Ended (judged file)
-unfolding checkOf restOf judgedLines within isLimited pick
-ended-file file z = ends (judged file) z
-
-all-read : (file : List ℕ) → checkOf file .number ≡ 0 → Read startState file (linesIn file) (judged file .next)
-all-read file z = all-taken (refused startState 0 0) (lined 0 file) (ended-file file z .number)
-
 pub accepted-again : (file : List ℕ) → checkOf file .number ≡ 0 → checkOf (withoutCities file) .number ≡ 0
 unfolding checkOf restOf judgedLines within isLimited pick withoutCities
 accepted-again file z =
-    let p = follows (all-read file z) (refused startState 0 0) (record { number = refl; next = start-behind }) in
+    let p = follows (runs-file file z) (refused startState 0 0) (record { number = refl; next = start-behind }) in
     ended-zero (judged (keptOf (linesIn file))) (ended-behind (judged file) (judged (keptOf (linesIn file))) (ended-file file z) p)
 
 -- ## No city is left
@@ -176,14 +116,14 @@ unfolding noCity pick
 none-line rest t true e r = r
 none-line {xs = xs} rest t false e r = ap noCity (lines-whole xs rest (t .whole)) ∙ ap₂ (λ p q. not p && q) e r
 
-none-left : {s u : State} {xs : List ℕ} {lines : List (List ℕ)} → Read s xs lines u → noCity (linesIn (keptOf lines)) ≡ true
+none-left : {s u : State} {xs : List ℕ} {lines : List (List ℕ)} → Runs s xs lines u → noCity (linesIn (keptOf lines)) ≡ true
 unfolding keptOf keptLine linesFrom noCity
 none-left no-more = refl
 none-left (line {x = x} {xs} {lines} t r) = none-line (keptOf lines) t (isCity (nextLine (x ∷ xs))) refl (none-left r)
 
 pub without-cities : (file : List ℕ) → checkOf file .number ≡ 0 → noCity (linesIn (withoutCities file)) ≡ true
 unfolding withoutCities
-without-cities file z = none-left (all-read file z)
+without-cities file z = none-left (runs-file file z)
 
 -- ## What the writer writes
 
@@ -254,7 +194,7 @@ module _ {s : State} {x : ℕ} {xs : List ℕ} (tk : Taken s (x ∷ xs)) (w : St
         ∙ ap (lineFor w (entry .0)) (ap (λ (r : LineRead). r .text) read-w ∙ sym (ap (λ (r : LineRead). r .text) read-s))
 
     writer-is : writtenOf w (entry .0) (stepAt s (x ∷ xs) .text) 52 ≡ answered (readAs w (tk .kind) (x ∷ xs) .answer) (readAs w (tk .kind) (x ∷ xs) .next)
-    writer-is = wrote w (entry .0) (stepAt s (x ∷ xs) .text) (readAs w (tk .kind) (x ∷ xs)) (ap (stepAt w) (sym line-is) ∙ step-front w (x ∷ xs) ∙ read-w) refl
+    writer-is = wrote w (entry .0) (stepAt s (x ∷ xs) .text) (readAs w (tk .kind) (x ∷ xs)) (ap (stepAt w) (sym line-is) ∙ step-own w (x ∷ xs) ∙ read-w) refl
 
     kept-written : Rewrites s w (x ∷ xs) (nextLine (x ∷ xs) ++ rest)
     kept-written =
@@ -270,14 +210,14 @@ module _ {s : State} {x : ℕ} {xs : List ℕ} (tk : Taken s (x ∷ xs)) (w : St
       city (ap (λ (r : LineRead). r .answer .number) read-s) (ap (λ (r : LineRead). entryOf (r .read)) read-s ∙ o) (after w (behind-city b tk c))
   line-written false e = kept-written (sym (city-kind (x ∷ xs) tk) ∙ e)
 
-rewrites : {s u : State} {xs : List ℕ} {lines : List (List ℕ)} → Read s xs lines u → (w : State) → Behind s w → Rewrites s w xs (keptOf lines)
+rewrites : {s u : State} {xs : List ℕ} {lines : List (List ℕ)} → Runs s xs lines u → (w : State) → Behind s w → Rewrites s w xs (keptOf lines)
 unfolding keptOf keptLine
 rewrites {s} no-more w b = ended s w
 rewrites (line {x = x} {xs} {lines} t r) w b = line-written t w b (keptOf lines) (λ v c. rewrites r v c) (isCity (nextLine (x ∷ xs))) refl
 
 pub by-writer : (file : List ℕ) → checkOf file .number ≡ 0 → Rewrites startState startState file (withoutCities file)
 unfolding withoutCities
-by-writer file z = rewrites (all-read file z) startState start-behind
+by-writer file z = rewrites (runs-file file z) startState start-behind
 
 -- ## Of the function's own result
 

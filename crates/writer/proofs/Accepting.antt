@@ -39,7 +39,7 @@ use Rattle.reading.specs.declared.State.{State}
 use Rattle.reading.specs.declared.Judged.{Judged}
 use Rattle.reading.specs.declared.LineRead.{LineRead}
 use Rattle.reading.proofs.Answers.{step-first, step-judged}
-use Rattle.reading.proofs.Running.{first-own}
+use Rattle.reading.proofs.Slices.{step-own}
 use Rattle.reading.proofs.Verdicts.{next-line, Taken, takes}
 use Rattle.writer.specs.Encoding.{lineEnd}
 
@@ -163,10 +163,5 @@ module _ {s : State} {xs : List ℕ} (a : Accepted s xs) where
 
 -- ## A line is judged by its own bytes
 
-pub step-front : (s : State) (xs : List ℕ) → stepAt s (nextLine xs) ≡ stepAt s xs
-step-front s [] = ap (stepAt s) (take-all (cutOf [] .bytes) [] (omega arith))
-step-front s (x ∷ xs) =
-    step-first s (nextLine (x ∷ xs)) (line-inside (x ∷ xs) 0 (omega arith) refl .0) ∙ ap₂ (λ l j. readBy l (j .code) j) (take-50 (x ∷ xs)) (first-own s (x ∷ xs)) ∙ sym (step-first s (x ∷ xs) (omega arith))
-
 pub step-on : {s : State} {xs : List ℕ} → Accepted s xs → (rest : List ℕ) → stepAt s (xs ++ rest) ≡ stepAt s xs
-step-on {s} {xs} a rest = sym (step-front s (xs ++ rest)) ∙ ap (stepAt s) (whole-next xs rest (a .whole)) ∙ step-front s xs
+step-on {s} {xs} a rest = sym (step-own s (xs ++ rest)) ∙ ap (stepAt s) (whole-next xs rest (a .whole)) ∙ step-own s xs

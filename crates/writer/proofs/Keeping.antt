@@ -21,7 +21,8 @@ use Rattle.writer.specs.Promises.{recordOf, entryOf, ReadsBack, WritesAg
 use Rattle.writer.specs.declared.Entry.{Entry}
 use Rattle.writer.specs.declared.Written.{Written}
 use Rattle.writer.proofs.Placing.{answer-via, room-via}
-use Rattle.writer.proofs.Accepting.{accepts, step-front, step-on}
+use Rattle.reading.proofs.Slices.{step-own}
+use Rattle.writer.proofs.Accepting.{accepts, step-on}
 use Rattle.writer.proofs.Back.{line-52, read-back}
 use Rattle.writer.proofs.Again.{none≢some, written-again}
 
@@ -77,7 +78,7 @@ module _ (s : State) (e : Entry) (t : List ℕ) (h : length t ≡ 35) where
   writes-again out n xs z q y =
       let l = lineFor s e t in
       let m : nextLine xs ≡ lineFor s e t = written-again s xs (some-bytes s xs e q) z e q ∙ ap (lineFor s e) y in
-      let r : stepAt s (lineFor s e t) ≡ stepAt s xs = ap (stepAt s) (sym m) ∙ step-front s xs in
+      let r : stepAt s (lineFor s e t) ≡ stepAt s xs = ap (stepAt s) (sym m) ∙ step-own s xs in
       let a : eqb (stepAt s (lineFor s e t) .answer .number) 0 ≡ true = eq-eqb (stepAt s (lineFor s e t) .answer .number) 0 (ap (λ (v : LineRead). v .answer .number) r ∙ z) in
       let b = le-leb 52 (length out) n in
       record {
