@@ -13,7 +13,7 @@ abbrev pub noItem : OpenItem
 noItem = record { name = Unwanted; reference = false; descriptions = 0 }
 
 abbrev pub startState : State
-startState = record { line = 0; stage = Start; before = nothingBefore; batch = emptyBatch; item = noItem }
+startState = record { line = 0; before = nothingBefore; batch = emptyBatch; stage = Start; item = noItem }
 
 -- the lines of the longest accepted file
 abbrev pub maxLine : ℕ

@@ -39,7 +39,7 @@ use Rattle.reading.specs.declared.LineRead.{LineRead}
 
 -- one line more, and all that a record can change
 abbrev pub onward : State → Stage → Before → Batch → OpenItem → State
-onward s p e b i = record { line = s .line + 1; stage = p; before = e; batch = b; item = i }
+onward s p e b i = record { line = s .line + 1; before = e; batch = b; stage = p; item = i }
 
 abbrev pub moved : State → Stage → State
 moved s p = onward s p (s .before) (s .batch) (s .item)

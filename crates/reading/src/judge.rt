@@ -187,7 +187,7 @@ fn is_limited(s: State) -> bool
             & ((b.accounts <= format::MAX_ACCOUNT)
                 & ((p.sequence <= Batch::MAX_SEQUENCE)
                     & ((b.fixed <= Batch::MAX_FIXED)
-                        & (i.descriptions <= format::MAX_DESCRIPTIONS)))))
+                        & ((i.descriptions as u64) <= format::MAX_DESCRIPTIONS)))))
 }
 
 fn run(start: State, bytes: &[u8]) -> Judged

@@ -36,15 +36,16 @@ pub enum Name {
 pub struct OpenItem {
     pub name: Name,
     pub reference: bool,
-    pub descriptions: u64,
+    pub descriptions: u8,
 }
 
-// A file so far: the lines read, the stage, what crosses batches, the batch, and the open item.
+// A file so far: the lines read, what crosses batches, the batch, the stage, and the open item. (Numbers first, then what takes a byte: gaps
+// between fields would be copied with them, line by line.)
 pub struct State {
     pub line: u64,
-    pub stage: Stage,
     pub before: Before,
     pub batch: Batch,
+    pub stage: Stage,
     pub item: OpenItem,
 }
 
@@ -87,9 +88,9 @@ impl State {
         let item = no_item();
         State {
             line: 0,
-            stage: Stage::Start,
             before,
             batch,
+            stage: Stage::Start,
             item,
         }
     }

@@ -92,16 +92,16 @@ fn may_text(p: Stage, g: Group, n: Name) -> bool
     is_stage(p, Stage::Item) & texts_by(g, n)
 }
 
-fn may_refer(p: Stage, g: Group, n: Name, reference: bool, descriptions: u64) -> bool
+fn may_refer(p: Stage, g: Group, n: Name, reference: bool, descriptions: u8) -> bool
     ensures { λ r. ⌜ r ≡ mayRefer p g n reference descriptions ⌝ }
 {
     may_text(p, g, n) & (!reference & (descriptions == 0))
 }
 
-fn may_describe(p: Stage, g: Group, n: Name, reference: bool, descriptions: u64) -> bool
+fn may_describe(p: Stage, g: Group, n: Name, reference: bool, descriptions: u8) -> bool
     ensures { λ r. ⌜ r ≡ mayDescribe p g n reference descriptions ⌝ }
 {
-    may_text(p, g, n) & (descriptions < format::most_descriptions(reference))
+    may_text(p, g, n) & ((descriptions as u64) < format::most_descriptions(reference))
 }
 
 impl State {

@@ -99,9 +99,9 @@ impl State {
     {
         State {
             line: self.line + 1,
-            stage,
             before,
             batch,
+            stage,
             item,
         }
     }
@@ -177,7 +177,7 @@ impl State {
         self.with_item(item)
     }
 
-    fn texted(self, reference: bool, descriptions: u64) -> State
+    fn texted(self, reference: bool, descriptions: u8) -> State
         requires { ⌜ self .line ≤ maxLine ⌝ }
         ensures { λ r. ⌜ r ≡ texted self reference descriptions ⌝ }
     {

@@ -28,11 +28,11 @@ unfoldable pub firstFault : List Row → Fault
 firstFault rows = firstOr faultAt rows noFault
 
 abbrev pub nothingBefore : Before
-nothingBefore = record { group = Payments; known = false; sequence = 0 }
+nothingBefore = record { sequence = 0; group = Payments; known = false }
 
 -- after a batch header of a group and a number
 abbrev pub afterHeader : Before → Group → ℕ → Before
-afterHeader p g n = record { group = g; known = true; sequence = n }
+afterHeader p g n = record { sequence = n; group = g; known = true }
 
 abbrev pub emptyBatch : Batch
 emptyBatch = record { account = 0; items = 0; total = 0; accounts = 0; fixed = 0 }

@@ -16,11 +16,11 @@ pub struct Fault {
     pub column: u8,
 }
 
-// What crosses batches: the group and whether it is known yet, and the number of the last batch header, 0 for none.
+// What crosses batches: the number of the last batch header, 0 for none, and the group and whether it is known yet.
 pub struct Before {
+    pub sequence: u64,
     pub group: Group,
     pub known: bool,
-    pub sequence: u64,
 }
 
 impl Before {
@@ -28,9 +28,9 @@ impl Before {
         ensures { λ r. ⌜ r ≡ nothingBefore ⌝ }
     {
         Before {
+            sequence: 0,
             group: Group::Payments,
             known: false,
-            sequence: 0,
         }
     }
 
@@ -39,9 +39,9 @@ impl Before {
         ensures { λ r. ⌜ r ≡ afterHeader self group sequence ⌝ }
     {
         Before {
+            sequence,
             group,
             known: true,
-            sequence,
         }
     }
 }
