@@ -39,8 +39,8 @@ pub struct OpenItem {
     pub descriptions: u8,
 }
 
-// A file so far: the lines read, what crosses batches, the batch, the stage, and the open item. (Numbers first, then what takes a byte: gaps
-// between fields would be copied with them, line by line.)
+// A file so far: the lines read, what crosses batches, the batch, the stage, and the open item. (Numbers first, then
+// what takes a byte: gaps between fields are copied with them, line by line.)
 pub struct State {
     pub line: u64,
     pub before: Before,

@@ -55,16 +55,23 @@ fn city(line: &[u8]) -> Fault
     last(free_answer(line, 5, 45), 6)
 }
 
-// The first fault of a line of that kind, in a batch so far. A transaction has none here: its fields are read with their
-// faults, by `item::transaction_in`.
+// The first fault of a line of that kind, in a batch so far. A transaction has none here: its fields are read with
+// their faults, by `item::transaction_in`. (A header's function gets a copy: what goes to a call that is not inlined
+// stands in memory, and on every line where it is the state's own.)
 pub fn fault_in(kind: Kind, line: &[u8], before: Before, batch: Batch) -> Fault
     ensures { λ r. ⌜ r ≡ otherFault before batch kind (now (line .entry)) ⌝ }
 {
     let group = before.group;
     match kind {
         Kind::FileHeader => file_header(line),
-        Kind::BatchHeaderB => batch_header(line, false, before),
-        Kind::BatchHeaderC => batch_header(line, true, before),
+        Kind::BatchHeaderB => {
+            let last = before;
+            batch_header(line, false, last)
+        }
+        Kind::BatchHeaderC => {
+            let last = before;
+            batch_header(line, true, last)
+        }
         Kind::FixedDescription => text(line, 32, 37, 13, 38),
         Kind::OrderingParty => ordering_party(line, group),
         Kind::Transaction => fault(0, 0),
