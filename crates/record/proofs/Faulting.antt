@@ -14,7 +14,7 @@ use Rattle.format.specs.Records.{layout, Fields, group, unidentified, amount}
 use Rattle.format.specs.Rules.{maxTotal, maxItems}
 use Rattle.format.specs.Tests.{Test, test, Tests, groupTests}
 use Rattle.format.specs.declared.Kind.{Kind}
-use Rattle.format.specs.declared.Kind.the-variants.{BatchHeaderB, BatchHeaderC}
+use Rattle.format.specs.declared.Kind.the-variants.{FileHeader, BatchHeaderB, BatchHeaderC}
 use Rattle.format.specs.declared.Group.{Group}
 use Rattle.field.specs.Rows.{Row, row, partAt, firstAnswer, fieldAnswer, rowsAt, checkRows, firstOr}
 use Rattle.field.proofs.Rows.{rows-passed}
@@ -22,7 +22,11 @@ use Rattle.record.specs.declared.Fault.{Fault}
 use Rattle.record.specs.declared.Before.{Before}
 use Rattle.record.specs.declared.Batch.{Batch}
 use Rattle.record.specs.Faults.{faultAt, noFault, firstFault, fieldsOf, fieldsFault, knownGroup, testsFor, maximaFor, faultOf, otherFault, headerFault}
-use Rattle.format.proofs.Every.{every}
+use Rattle.format.proofs.Every.{kinds, every}
+use Rattle.format.proofs.Kind.{the-type}
+use denote.Enum.Declared.{tagOf}
+use mathlib.Core.Logic.{_⊎_, inl, inr}
+use lib.ListN.{getD}
 use borrow.Author.Tests.{eqb-false}
 
 -- the last row of a chain
@@ -125,6 +129,17 @@ unfolding faultOf firstFault
 fault-numbers p b k xs = first-small _ (rows-small 6 (layout k) (testsFor p b k (fieldsOf k xs)) xs (checkRows (maximaFor b k (fieldsOf k xs))) (small-tests p b k (fieldsOf k xs)) (small-maxima b k (fieldsOf k xs)))
 
 -- ## Every kind, from the call of its arm
+
+abbrev kindAt : ℕ → Kind
+kindAt n = getD kinds n FileHeader
+
+kind-at : (k : Kind) → kindAt (tagOf the-type k) ≡ k
+kind-at = every (λ k. kindAt (tagOf the-type k) ≡ k) refl refl refl refl refl refl refl refl refl refl refl refl refl refl
+
+-- an arm of two kinds knows of the kind that its place is one of these
+pub at-two : {x : Fault} (p : Before) (b : Batch) (k : Kind) (xs : List ℕ) (i j : ℕ) → (tagOf the-type k ≡ i) ⊎ (tagOf the-type k ≡ j) → x ≡ otherFault p b (kindAt i) xs → x ≡ otherFault p b (kindAt j) xs → x ≡ otherFault p b k xs
+at-two p b k xs i j (inl e) f g = f ∙ ap (λ n. otherFault p b (kindAt n) xs) (sym e) ∙ ap (λ m. otherFault p b m xs) (kind-at k)
+at-two p b k xs i j (inr e) f g = g ∙ ap (λ n. otherFault p b (kindAt n) xs) (sym e) ∙ ap (λ m. otherFault p b m xs) (kind-at k)
 
 module _ {k : Kind} {x : Fault} (p : Before) (b : Batch) (xs : List ℕ) where
   pub at-kind : (j : Kind) → k ≡ j → x ≡ otherFault p b j xs → x ≡ otherFault p b k xs

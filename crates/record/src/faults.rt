@@ -9,18 +9,18 @@ ghost use Rattle.record.specs.Faults.{faultAt, firstFault, fieldsFault, 
 use crate::Batch;
 use crate::Before;
 use crate::Fault;
-use crate::faults::batch::batch_header;
-use crate::faults::batch::batch_trailer;
-use crate::faults::batch::ordering_party;
-use crate::faults::file::file_header;
-use crate::faults::file::file_trailer;
+use crate::faults::batch_frame::batch_header;
+use crate::faults::batch_frame::batch_trailer;
+use crate::faults::batch_frame::ordering_party;
+use crate::faults::file_frame::file_header;
+use crate::faults::file_frame::file_trailer;
 use field::texts::filled_answer;
 use field::texts::filler_answer;
 use field::texts::free_answer;
 use format::Kind;
 
-pub(crate) mod batch;
-pub(crate) mod file;
+pub(crate) mod batch_frame;
+pub(crate) mod file_frame;
 pub mod item;
 
 pub(crate) fn fault(number: u8, column: u8) -> Fault
@@ -72,15 +72,12 @@ pub fn fault_in(kind: Kind, line: &[u8], before: Before, batch: Batch) -> Fault
             let last = before;
             batch_header(line, true, last)
         }
-        Kind::FixedDescription => text(line, 32, 37, 13, 38),
         Kind::OrderingParty => ordering_party(line, group),
         Kind::Transaction => fault(0, 0),
-        Kind::NamePayer => text(line, 35, 40, 10, 41),
-        Kind::CityPayer => city(line),
+        Kind::NamePayer | Kind::NameBeneficiary => text(line, 35, 40, 10, 41),
+        Kind::CityPayer | Kind::CityBeneficiary => city(line),
         Kind::PaymentReference => text(line, 16, 21, 29, 22),
-        Kind::Description => text(line, 32, 37, 13, 38),
-        Kind::NameBeneficiary => text(line, 35, 40, 10, 41),
-        Kind::CityBeneficiary => city(line),
+        Kind::FixedDescription | Kind::Description => text(line, 32, 37, 13, 38),
         Kind::BatchTrailer => batch_trailer(line, batch),
         Kind::FileTrailer => file_trailer(line),
     }

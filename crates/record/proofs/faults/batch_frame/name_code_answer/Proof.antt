@@ -3,8 +3,8 @@ use borrow.Author.Tests.{eq-eqb, ne-eqb}
 use Rattle.field.proofs.Picks.{pick-yes, pick-no}
 use Rattle.field.proofs.Numerics.{no-stop, no-on}
 use Rattle.record.proofs.BatchFaults.{name-payments, name-debits}
-use Rattle.record.proofs.faults.batch.name_code_answer.Statement.{statement}
-use Rattle.record.proofs.faults.batch.name_code_answer.Tie as tie
+use Rattle.record.proofs.faults.batch_frame.name_code_answer.Statement.{statement}
+use Rattle.record.proofs.faults.batch_frame.name_code_answer.Tie as tie
 
 pub name-code-answer-spec : {M : Type 1} → statement M
 name-code-answer-spec =

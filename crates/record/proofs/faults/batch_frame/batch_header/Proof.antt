@@ -3,8 +3,8 @@ use Rattle.record.specs.Faults.{firstFault}
 use Rattle.field.proofs.Rows.{rows}
 use Rattle.record.proofs.Faulting.{ends}
 use Rattle.record.proofs.BatchFaults.{header-via}
-use Rattle.record.proofs.faults.batch.batch_header.Statement.{statement}
-use Rattle.record.proofs.faults.batch.batch_header.Tie as tie
+use Rattle.record.proofs.faults.batch_frame.batch_header.Statement.{statement}
+use Rattle.record.proofs.faults.batch_frame.batch_header.Tie as tie
 
 pub batch-header-spec : {M : Type 1} → statement M
 unfolding firstFault

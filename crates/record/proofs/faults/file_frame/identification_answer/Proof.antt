@@ -3,8 +3,8 @@ use borrow.Author.Tests.{eq-eqb, ne-eqb}
 use Rattle.field.proofs.Picks.{pick-yes, pick-no}
 use Rattle.field.proofs.Forms.{form-stop, form-on}
 use Rattle.record.proofs.FileFaults.{no-digits, no-counter, counted, of-day}
-use Rattle.record.proofs.faults.file.identification_answer.Statement.{statement}
-use Rattle.record.proofs.faults.file.identification_answer.Tie as tie
+use Rattle.record.proofs.faults.file_frame.identification_answer.Statement.{statement}
+use Rattle.record.proofs.faults.file_frame.identification_answer.Tie as tie
 
 pub identification-answer-spec : {M : Type 1} → statement M
 identification-answer-spec =

@@ -2,8 +2,8 @@ use borrow.Author.Needs.{needs}
 use Rattle.record.specs.Faults.{fieldsFault, firstFault}
 use Rattle.field.proofs.Rows.{rows}
 use Rattle.record.proofs.Faulting.{ends}
-use Rattle.record.proofs.faults.batch.batch_trailer.Statement.{statement}
-use Rattle.record.proofs.faults.batch.batch_trailer.Tie as tie
+use Rattle.record.proofs.faults.batch_frame.batch_trailer.Statement.{statement}
+use Rattle.record.proofs.faults.batch_frame.batch_trailer.Tie as tie
 
 pub batch-trailer-spec : {M : Type 1} → statement M
 unfolding fieldsFault firstFault

@@ -3,8 +3,8 @@ use Rattle.record.specs.Faults.{fieldsFault, firstFault}
 use Rattle.field.proofs.Rows.{rows}
 use Rattle.record.proofs.Faulting.{ends}
 use Rattle.record.proofs.FileFaults.{identification-row}
-use Rattle.record.proofs.faults.file.file_header.Statement.{statement}
-use Rattle.record.proofs.faults.file.file_header.Tie as tie
+use Rattle.record.proofs.faults.file_frame.file_header.Statement.{statement}
+use Rattle.record.proofs.faults.file_frame.file_header.Tie as tie
 
 pub file-header-spec : {M : Type 1} → statement M
 unfolding fieldsFault firstFault

@@ -3,8 +3,8 @@ use borrow.Author.Tests.{eq-eqb, ne-eqb}
 use Rattle.field.proofs.Picks.{pick-yes, pick-no, first-holds, else-is}
 use Rattle.field.proofs.Numerics.{no-stop, no-on}
 use Rattle.record.proofs.BatchFaults.{is-next, is-not-next, at-least}
-use Rattle.record.proofs.faults.batch.sequence_answer.Statement.{statement}
-use Rattle.record.proofs.faults.batch.sequence_answer.Tie as tie
+use Rattle.record.proofs.faults.batch_frame.sequence_answer.Statement.{statement}
+use Rattle.record.proofs.faults.batch_frame.sequence_answer.Tie as tie
 
 pub sequence-answer-spec : {M : Type 1} → statement M
 sequence-answer-spec =

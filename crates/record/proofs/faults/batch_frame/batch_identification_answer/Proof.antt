@@ -1,7 +1,7 @@
 use borrow.Author.Needs.{needs}
 use Rattle.field.proofs.Picks.{pick-yes, pick-no}
-use Rattle.record.proofs.faults.batch.batch_identification_answer.Statement.{statement}
-use Rattle.record.proofs.faults.batch.batch_identification_answer.Tie as tie
+use Rattle.record.proofs.faults.batch_frame.batch_identification_answer.Statement.{statement}
+use Rattle.record.proofs.faults.batch_frame.batch_identification_answer.Tie as tie
 
 pub batch-identification-answer-spec : {M : Type 1} → statement M
 batch-identification-answer-spec =

@@ -2,8 +2,8 @@ use borrow.Author.Needs.{needs}
 use Rattle.format.specs.Rules.{isTestCode}
 use Rattle.field.proofs.Picks.{pick-yes, pick-no, first-holds, else-is}
 use Rattle.field.proofs.Forms.{form-stop, form-on, same-part}
-use Rattle.record.proofs.faults.batch.test_code_answer.Statement.{statement}
-use Rattle.record.proofs.faults.batch.test_code_answer.Tie as tie
+use Rattle.record.proofs.faults.batch_frame.test_code_answer.Statement.{statement}
+use Rattle.record.proofs.faults.batch_frame.test_code_answer.Tie as tie
 
 pub test-code-answer-spec : {M : Type 1} → statement M
 unfolding isTestCode

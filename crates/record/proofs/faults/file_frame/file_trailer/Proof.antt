@@ -1,8 +1,8 @@
 use borrow.Author.Needs.{needs}
 use Rattle.record.specs.Faults.{fieldsFault, firstFault}
 use Rattle.record.proofs.Faulting.{ends}
-use Rattle.record.proofs.faults.file.file_trailer.Statement.{statement}
-use Rattle.record.proofs.faults.file.file_trailer.Tie as tie
+use Rattle.record.proofs.faults.file_frame.file_trailer.Statement.{statement}
+use Rattle.record.proofs.faults.file_frame.file_trailer.Tie as tie
 
 pub file-trailer-spec : {M : Type 1} → statement M
 unfolding fieldsFault firstFault

@@ -2,8 +2,8 @@ use borrow.Author.Needs.{needs}
 use Rattle.record.specs.Faults.{fieldsFault, firstFault}
 use Rattle.field.proofs.Rows.{rows}
 use Rattle.record.proofs.Faulting.{ends}
-use Rattle.record.proofs.faults.batch.ordering_party.Statement.{statement}
-use Rattle.record.proofs.faults.batch.ordering_party.Tie as tie
+use Rattle.record.proofs.faults.batch_frame.ordering_party.Statement.{statement}
+use Rattle.record.proofs.faults.batch_frame.ordering_party.Tie as tie
 
 pub ordering-party-spec : {M : Type 1} → statement M
 unfolding fieldsFault firstFault
