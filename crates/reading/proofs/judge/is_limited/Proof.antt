@@ -1,3 +1,4 @@
+-- What judge::is_limited ensures.
 use borrow.Author.Needs.{needs}
 use Rattle.reading.specs.State.{isLimited}
 use Rattle.reading.proofs.judge.is_limited.Statement.{statement}
@@ -9,5 +10,5 @@ is-limited-spec =
     tie.close
     (tie.spec
     (λ c. search needs)  -- cast
-    (λ c. search needs)
+    (λ c. search needs)  -- returns
     )

@@ -1,3 +1,4 @@
+-- What faults::fault_in ensures, by the laws of Faulting.
 use borrow.Author.Needs.{needs}
 use Rattle.machine.specs.Lists.{pick}
 use Rattle.record.specs.Faults.{fieldsFault, otherFault, faultOf, textFault}

@@ -1,3 +1,4 @@
+-- What faults::last ensures, by the laws of field's Rows.
 use borrow.Author.Needs.{needs}
 use Rattle.record.specs.Faults.{firstFault}
 use Rattle.field.proofs.Rows.{rows}

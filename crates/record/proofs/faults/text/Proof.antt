@@ -1,3 +1,4 @@
+-- What faults::text ensures, by the laws of field's Rows and Faulting.
 use borrow.Author.Needs.{needs}
 use Rattle.record.specs.Faults.{textFault, firstFault}
 use Rattle.field.proofs.Rows.{rows}

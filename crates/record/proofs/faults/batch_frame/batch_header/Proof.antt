@@ -1,3 +1,4 @@
+-- What faults::batch_frame::batch_header ensures, by the laws of field's Rows, Faulting and BatchFaults.
 use borrow.Author.Needs.{needs}
 use Rattle.record.specs.Faults.{firstFault}
 use Rattle.field.proofs.Rows.{rows}

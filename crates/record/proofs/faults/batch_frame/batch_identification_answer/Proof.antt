@@ -1,3 +1,4 @@
+-- What faults::batch_frame::batch_identification_answer ensures, by the laws of field's Picks.
 use borrow.Author.Needs.{needs}
 use Rattle.field.proofs.Picks.{pick-yes, pick-no}
 use Rattle.record.proofs.faults.batch_frame.batch_identification_answer.Statement.{statement}

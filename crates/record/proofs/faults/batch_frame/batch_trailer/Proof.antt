@@ -1,3 +1,4 @@
+-- What faults::batch_frame::batch_trailer ensures, by the laws of field's Rows and Faulting.
 use borrow.Author.Needs.{needs}
 use Rattle.record.specs.Faults.{fieldsFault, firstFault}
 use Rattle.field.proofs.Rows.{rows}

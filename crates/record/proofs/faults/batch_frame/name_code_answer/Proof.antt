@@ -1,3 +1,4 @@
+-- What faults::batch_frame::name_code_answer ensures, by the laws of field's Picks, field's Numerics and BatchFaults.
 use borrow.Author.Needs.{needs}
 use borrow.Author.Tests.{eq-eqb, ne-eqb}
 use Rattle.field.proofs.Picks.{pick-yes, pick-no}

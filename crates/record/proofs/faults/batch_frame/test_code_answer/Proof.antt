@@ -1,3 +1,4 @@
+-- What faults::batch_frame::test_code_answer ensures, by the laws of field's Picks and field's Forms.
 use borrow.Author.Needs.{needs}
 use Rattle.format.specs.Rules.{isTestCode}
 use Rattle.field.proofs.Picks.{pick-yes, pick-no, first-holds, else-is}

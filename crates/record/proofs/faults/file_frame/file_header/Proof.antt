@@ -1,3 +1,4 @@
+-- What faults::file_frame::file_header ensures, by the laws of field's Rows, Faulting and FileFaults.
 use borrow.Author.Needs.{needs}
 use Rattle.record.specs.Faults.{fieldsFault, firstFault}
 use Rattle.field.proofs.Rows.{rows}

@@ -1,3 +1,4 @@
+-- What faults::file_frame::file_trailer ensures, by the laws of Faulting.
 use borrow.Author.Needs.{needs}
 use Rattle.record.specs.Faults.{fieldsFault, firstFault}
 use Rattle.record.proofs.Faulting.{ends}

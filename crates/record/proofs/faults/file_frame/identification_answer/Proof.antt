@@ -1,3 +1,4 @@
+-- What faults::file_frame::identification_answer ensures, by the laws of field's Picks, field's Forms and FileFaults.
 use borrow.Author.Needs.{needs}
 use borrow.Author.Tests.{eq-eqb, ne-eqb}
 use Rattle.field.proofs.Picks.{pick-yes, pick-no}

@@ -1,3 +1,4 @@
+-- What faults::item::amount_in ensures, by the laws of field's Numerics.
 use borrow.Author.Needs.{needs}
 use Rattle.field.proofs.Numerics.{range-of}
 use Rattle.record.proofs.faults.item.amount_in.Statement.{statement}

@@ -1,3 +1,4 @@
+-- What faults::item::maxima_fault ensures, by the laws of ItemFaults.
 use borrow.Author.Needs.{needs}
 use Rattle.record.proofs.ItemFaults.{maxima, too-many, below}
 use Rattle.record.proofs.faults.item.maxima_fault.Statement.{statement}

@@ -1,3 +1,4 @@
+-- What faults::item::payer_in ensures, by the laws of ItemFaults.
 use borrow.Author.Needs.{needs}
 use Rattle.record.proofs.ItemFaults.{party-via}
 use Rattle.record.proofs.faults.item.payer_in.Statement.{statement}

@@ -1,3 +1,4 @@
+-- What faults::item::transaction_in ensures, by the laws of field's Rows and ItemFaults.
 use borrow.Author.Needs.{needs}
 use Rattle.record.specs.Read.{transactionOf}
 use Rattle.field.proofs.Rows.{rows}
