@@ -61,8 +61,6 @@ pub next-bytes : {r b : List ℕ} (l : Lines) (buffer : List ℕ) → r ≡ next
     → b ≡ pick (hasLeft (passedOne l buffer)) buffer b
 next-bytes {b = b} l buffer e h = h ∙ ap (λ x. pick (hasLeft (movedTo l (l .at + length x))) buffer b) e
 
-pub ruleset nexts = (next-kept, next-bytes)
-
 -- ## Status
 
 pub digit-of : (status : ℕ) → status < 2 → 48 + status ≡ statusDigit status
