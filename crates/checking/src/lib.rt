@@ -49,10 +49,7 @@ pub fn check(fd: i32, name: &[u8], buffer: &mut [u8]) -> Checked
     while 0 < turns {
         lines = lines.next(fd, name, buffer);
         checked = checked.next(lines, buffer);
-        if checked.answer.number != 0 {
-            return checked;
-        }
-        if lines.end <= lines.at {
+        if (checked.answer.number != 0) | (lines.end <= lines.at) {
             return checked;
         }
         turns -= 1;
