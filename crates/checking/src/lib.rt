@@ -38,8 +38,8 @@ impl Checked {
     }
 }
 
-// Checks an input up to the first line that is refused, or its end. (A proved loop has to end, so this one counts its turns down from a
-// number that no run uses up.)
+// Checks an input up to the first line that is refused, or its end. (A proved loop has to end, so this one counts its
+// turns down from a number that no run uses up.)
 pub fn check(fd: i32, name: &[u8], buffer: &mut [u8]) -> Checked
     ensures { λ r. ⌜ Answered r (now (buffer .exit)) ⌝ }
 {

@@ -1,5 +1,6 @@
-// Says of each file that its arguments name, or of standard input, whether it is accepted, and if not what to tell the sender: the place, the
-// field, what is wrong, and the line as it stands with a mark under the column. For the operator on the telephone.
+// Says of each file that its arguments name, or of standard input, whether it is accepted, and if not what to tell the
+// sender: the place, the field, what is wrong, and the line as it stands with a mark under the column. For the
+// operator on the telephone.
 use field::bytes::part;
 use format::Answer;
 use format::Code;
@@ -91,7 +92,8 @@ fn measured_on(start: Lines, fd: i32, name: &[u8], buffer: &mut [u8]) -> Extent 
     m
 }
 
-// How many bytes of a refused line are shown: those before its end, where its own length is what is wrong or nobody asked for it.
+// How many bytes of a refused line are shown: those before its end, where its own length is what is wrong or nobody
+// asked for it.
 fn shown_length(answer: u8, line: &[u8]) -> usize {
     if (answer == format::BROKEN_LINE) | (answer == format::AFTER_TRAILER) {
         let n = length_of(measured(unmeasured(), line));

@@ -5,7 +5,8 @@ ghost use Prim.Native.Nat.{_≤_};
 ghost use lib.ListN.{length};
 ghost use Rattle.items.specs.Answering.{itemOf};
 ghost use Rattle.items.specs.Promises.{Promised};
-ghost use Rattle.clieop_c.specs.Returned.{packed, typeNumber, numberOf, itemAsked, numbersWith, textsWith, textsFound, itemNumbers, itemTexts, Held, itemFound, ItemPromised};
+ghost use Rattle.clieop_c.specs.Returned.{packed, typeNumber, numberOf, itemAsked, numbersWith, textsWith};
+ghost use Rattle.clieop_c.specs.Returned.{textsFound, itemNumbers, itemTexts, Held, itemFound, ItemPromised};
 use crate::pack;
 use field::bytes::put;
 use format::TransactionType;
@@ -68,13 +69,17 @@ fn without_room(file: &[u8], batch: u64, item: u64) -> ItemRead
     items::item(file, batch, item, &mut room)
 }
 
-// The item, handed out where there is room for all of it; and what `items::item` promises, with the first 128 bytes as its room.
+// The item, handed out where there is room for all of it; and what `items::item` promises, with the first 128 bytes as
+// its room.
 fn hand_out(file: &[u8], batch: u64, item: u64, texts: &mut [u8], numbers: &mut [u64]) -> ItemRead
-    ensures answer { λ r. ⌜ r ≡ itemAsked (now (file .entry)) batch item (length (now (texts .entry))) (length (now (numbers .entry))) ⌝ }
+    ensures answer { λ r. ⌜ r
+        ≡ itemAsked (now (file .entry)) batch item (length (now (texts .entry))) (length (now (numbers .entry))) ⌝ }
     ensures numbers { λ r. ⌜ now (numbers .exit) ≡ itemNumbers r (now (numbers .entry)) ⌝ }
-    ensures texts { λ _. ⌜ now (texts .exit) ≡ itemTexts (now (file .entry)) batch item (now (texts .entry)) (length (now (numbers .entry))) ⌝ }
+    ensures texts { λ _. ⌜ now (texts .exit)
+        ≡ itemTexts (now (file .entry)) batch item (now (texts .entry)) (length (now (numbers .entry))) ⌝ }
     ensures held { λ r. ⌜ Held r (now (texts .exit)) ⌝ }
-    ensures meaning { λ r. ⌜ ItemPromised (now (file .entry)) batch item (now (texts .entry)) r (now (texts .exit)) (length (now (numbers .entry))) ⌝ }
+    ensures meaning { λ r. ⌜ ItemPromised (now (file .entry)) batch item (now (texts .entry)) r (now (texts .exit))
+        (length (now (numbers .entry))) ⌝ }
 {
     if numbers.len() < 4 {
         return without_room(file, batch, item);
@@ -91,8 +96,8 @@ fn hand_out(file: &[u8], batch: u64, item: u64, texts: &mut [u8], numbers: &mut 
     r
 }
 
-// Item `item` of batch `batch`, each from 1: its type, amount, payer and beneficiary to the first four of `numbers`; the four descriptions,
-// the reference and the name to the first 168 bytes of `texts`.
+// Item `item` of batch `batch`, each from 1: its type, amount, payer and beneficiary to the first four of `numbers`;
+// the four descriptions, the reference and the name to the first 168 bytes of `texts`.
 #[no_mangle]
 pub extern "C" fn clieop_item(
     file: &[u8],
@@ -101,11 +106,18 @@ pub extern "C" fn clieop_item(
     texts: &mut [u8],
     numbers: &mut [u64],
 ) -> u64
-    ensures number { λ r. ⌜ r ≡ packed (itemAsked (now (file .entry)) batch item (length (now (texts .entry))) (length (now (numbers .entry))) .answer) ⌝ }
-    ensures numbers { λ _. ⌜ now (numbers .exit) ≡ itemNumbers (itemAsked (now (file .entry)) batch item (length (now (texts .entry))) (length (now (numbers .entry)))) (now (numbers .entry)) ⌝ }
-    ensures texts { λ _. ⌜ now (texts .exit) ≡ itemTexts (now (file .entry)) batch item (now (texts .entry)) (length (now (numbers .entry))) ⌝ }
-    ensures found { λ r. ⌜ itemFound r (now (numbers .exit)) (now (texts .exit)) ≡ itemAsked (now (file .entry)) batch item (length (now (texts .entry))) (length (now (numbers .entry))) ⌝ }
-    ensures meaning { λ r. ⌜ ItemPromised (now (file .entry)) batch item (now (texts .entry)) (itemFound r (now (numbers .exit)) (now (texts .exit))) (now (texts .exit)) (length (now (numbers .entry))) ⌝ }
+    ensures number { λ r. ⌜ r ≡ packed
+        (itemAsked (now (file .entry)) batch item (length (now (texts .entry)))
+        (length (now (numbers .entry))) .answer) ⌝ }
+    ensures numbers { λ _. ⌜ now (numbers .exit) ≡ itemNumbers
+        (itemAsked (now (file .entry)) batch item (length (now (texts .entry))) (length (now (numbers .entry))))
+        (now (numbers .entry)) ⌝ }
+    ensures texts { λ _. ⌜ now (texts .exit)
+        ≡ itemTexts (now (file .entry)) batch item (now (texts .entry)) (length (now (numbers .entry))) ⌝ }
+    ensures found { λ r. ⌜ itemFound r (now (numbers .exit)) (now (texts .exit))
+        ≡ itemAsked (now (file .entry)) batch item (length (now (texts .entry))) (length (now (numbers .entry))) ⌝ }
+    ensures meaning { λ r. ⌜ ItemPromised (now (file .entry)) batch item (now (texts .entry))
+        (itemFound r (now (numbers .exit)) (now (texts .exit))) (now (texts .exit)) (length (now (numbers .entry))) ⌝ }
 {
     let r = hand_out(file, batch, item, texts, numbers);
     let a = r.answer;

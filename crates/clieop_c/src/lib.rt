@@ -1,5 +1,6 @@
-// The library for other languages: functions on numbers and slices, each slice a pointer and a length there (library/clieop.h).
-// Each returns its answer, column and line in one number. What is lent is written with answer 0 only.
+// The library for other languages: functions on numbers and slices, each slice a pointer and a length there
+// (library/clieop.h). Each returns its answer, column and line in one number. What is lent is written with answer 0
+// only.
 ghost use mathlib.Core.Path.{_≡_};
 ghost use Prim.Native.Nat.{_≤_};
 ghost use lib.ListN.{length};
@@ -15,8 +16,8 @@ mod item;
 
 pub use item::clieop_item;
 
-// An answer in one number: it in the lowest byte, its column in the next, its line above them. (No line is above 6,999,369,996, the one
-// after the longest file.)
+// An answer in one number: it in the lowest byte, its column in the next, its line above them. (No line is above
+// 6,999,369,996, the one after the longest file.)
 fn pack(a: Answer) -> u64
     requires { ⌜ a .line ≤ 6999369996 ⌝ }
     ensures number { λ r. ⌜ r ≡ packed a ⌝ }
@@ -52,9 +53,11 @@ pub extern "C" fn clieop_check(file: &[u8]) -> u64
 #[no_mangle]
 pub extern "C" fn clieop_rewrite(file: &[u8], out: &mut [u8], written: &mut u64) -> u64
     ensures number { λ r. ⌜ r ≡ packed (rewrittenOf (now (file .entry)) (length (now (out .entry))) .answer) ⌝ }
-    ensures written { λ _. ⌜ now (written .exit) ≡ writtenAfter (rewrittenOf (now (file .entry)) (length (now (out .entry)))) (now (written .entry)) ⌝ }
+    ensures written { λ _. ⌜ now (written .exit)
+        ≡ writtenAfter (rewrittenOf (now (file .entry)) (length (now (out .entry)))) (now (written .entry)) ⌝ }
     ensures bytes { λ _. ⌜ now (out .exit) ≡ roomAfter (now (file .entry)) (now (out .entry)) ⌝ }
-    ensures found { λ r. ⌜ rewriteFound r (now (written .exit)) ≡ rewrittenOf (now (file .entry)) (length (now (out .entry))) ⌝ }
+    ensures found { λ r. ⌜ rewriteFound r (now (written .exit))
+        ≡ rewrittenOf (now (file .entry)) (length (now (out .entry))) ⌝ }
     ensures again { λ r. ⌜ Promised (now (file .entry)) (rewriteFound r (now (written .exit))) (now (out .exit)) ⌝ }
 {
     let r = rewriting::rewrite(file, out);

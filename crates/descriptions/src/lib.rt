@@ -26,7 +26,8 @@ fn least_of(a: u64, b: u64) -> u64
 // The first texts of one, then the first of the other, and spaces.
 fn texts_of_both(before: [u8; 128], first: u64, after: [u8; 128], rest: u64) -> [u8; 128]
     requires { ⌜ first + rest ≤ places ⌝ }
-    ensures { λ r. ⌜ r ≡ (take (32 * first) before ++ take (32 * rest) after) ++ drop (32 * (first + rest)) (spaces 128) ⌝ }
+    ensures { λ r. ⌜ r ≡ (take (32 * first) before ++ take (32 * rest) after) ++ drop (32 * (first + rest))
+        (spaces 128) ⌝ }
 {
     let mut text = [32u8; 128];
     let start = 32 * first;

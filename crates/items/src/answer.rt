@@ -2,7 +2,8 @@
 ghost use mathlib.Core.Path.{_≡_};
 ghost use lib.ListN.{length};
 ghost use Rattle.items.specs.Search.{noFields};
-ghost use Rattle.items.specs.Answering.{answered, isFound, textsFound, answeredBy, roomBy, isWithin, answeredAt, roomAt, itemOf, roomAfter};
+ghost use Rattle.items.specs.Answering.{answered, isFound, textsFound, answeredBy, roomBy, isWithin, answeredAt};
+ghost use Rattle.items.specs.Answering.{roomAt, itemOf, roomAfter};
 ghost use Rattle.items.specs.Promises.{Promised};
 use crate::Found;
 use crate::ItemRead;
@@ -52,7 +53,8 @@ impl Found {
 }
 
 impl Search {
-    // By the file's own answer: its refusal; 13; 12; or the item, with its descriptions in the first 128 bytes of the room.
+    // By the file's own answer: its refusal; 13; 12; or the item, with its descriptions in the first 128 bytes of the
+    // room.
     fn hand_out(self, file: Answer, out: &mut [u8]) -> ItemRead
         ensures answer { λ r. ⌜ r ≡ answeredBy self file (length (now (out .entry))) ⌝ }
         ensures bytes { λ _. ⌜ now (out .exit) ≡ roomBy self file (now (out .entry)) ⌝ }
@@ -77,7 +79,8 @@ impl Search {
         refused(Answer::refusal(format::NO_SUCH_ITEM, file.line, 0))
     }
 
-    // After all lines of a file, by the file's own answer; 24 where the search handed in has over four descriptions of a kind.
+    // After all lines of a file, by the file's own answer; 24 where the search handed in has over four descriptions of
+    // a kind.
     pub fn answered(self, file: Answer, out: &mut [u8]) -> ItemRead
         ensures answer { λ r. ⌜ r ≡ answeredAt self file (length (now (out .entry))) ⌝ }
         ensures bytes { λ _. ⌜ now (out .exit) ≡ roomAt self file (now (out .entry)) ⌝ }
@@ -91,8 +94,8 @@ impl Search {
     }
 }
 
-// Item k of batch b of a file, each from 1; and what the answer means: of a file of the language it is that item of its reading, or 13
-// where it has none, and of other bytes the file's own refusal.
+// Item k of batch b of a file, each from 1; and what the answer means: of a file of the language it is that item of
+// its reading, or 13 where it has none, and of other bytes the file's own refusal.
 pub fn item(file: &[u8], batch: u64, item: u64, out: &mut [u8]) -> ItemRead
     ensures answer { λ r. ⌜ r ≡ itemOf (now (file .entry)) batch item (length (now (out .entry))) ⌝ }
     ensures bytes { λ _. ⌜ now (out .exit) ≡ roomAfter (now (file .entry)) batch item (now (out .entry)) ⌝ }

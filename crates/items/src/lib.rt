@@ -30,7 +30,8 @@ pub struct Found {
     pub fields: ItemFields,
 }
 
-// A search so far: the batch headers and then the transactions still to come, up to the wanted one; whether the wanted batch and item are open; and what was found.
+// A search so far: the batch headers and then the transactions still to come, up to the wanted one; whether the wanted
+// batch and item are open; and what was found.
 pub struct Search {
     pub batches: u64,
     pub items: u64,

@@ -1,5 +1,5 @@
-// Prints item K of batch B of each file that its other arguments name, or of standard input: its fields and descriptions where there
-// is one, and the answer.
+// Prints item K of batch B of each file that its other arguments name, or of standard input: its fields and
+// descriptions where there is one, and the answer.
 use field::bytes::is_digits;
 use field::bytes::part;
 use field::numbers::Digits;
@@ -18,8 +18,8 @@ use reading::State;
 use record::types::type_text;
 use streams::Lines;
 
-// A search so far: the answer to the last line of the file, the state after it, what was found, whether it was the last line, and whether
-// all was read.
+// A search so far: the answer to the last line of the file, the state after it, what was found, whether it was the
+// last line, and whether all was read.
 struct Sought {
     answer: Answer,
     state: State,
@@ -79,8 +79,8 @@ fn seek_line(before: Sought, rest: &[u8], failed: bool) -> Sought {
     }
 }
 
-// The lines of an input, up to the first that is refused. (A proved loop has to end, so this one counts its turns down from a number that no
-// run uses up.)
+// The lines of an input, up to the first that is refused. (A proved loop has to end, so this one counts its turns down
+// from a number that no run uses up.)
 fn seek_lines(before: Sought, fd: i32, name: &[u8]) -> Sought {
     let mut buffer = [0u8; streams::BUFFER];
     let mut lines = Lines::start();

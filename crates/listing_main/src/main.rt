@@ -1,4 +1,5 @@
-// Prints the listing of each file that its arguments name, or of standard input: its header, each closed batch, and the answer.
+// Prints the listing of each file that its arguments name, or of standard input: its header, each closed batch, and
+// the answer.
 use field::bytes::part;
 use format::Answer;
 use format::Group;
@@ -14,8 +15,8 @@ use record::Record;
 use record::types::group_text;
 use streams::Lines;
 
-// The listing so far: the answer to the last line, the state after it, how much is gathered, whether it was the last line, and whether
-// all was read and written.
+// The listing so far: the answer to the last line, the state after it, how much is gathered, whether it was the last
+// line, and whether all was read and written.
 struct Listed {
     answer: Answer,
     state: State,
@@ -106,8 +107,8 @@ fn list_line(before: Listed, rest: &[u8], failed: bool, page: &mut [u8]) -> List
     listed
 }
 
-// The lines of an input, up to the first that is refused. (A proved loop has to end, so this one counts its turns down from a number that no
-// run uses up.)
+// The lines of an input, up to the first that is refused. (A proved loop has to end, so this one counts its turns down
+// from a number that no run uses up.)
 fn list_lines(before: Listed, fd: i32, name: &[u8], page: &mut [u8]) -> Listed {
     let mut buffer = [0u8; streams::BUFFER];
     let mut lines = Lines::start();

@@ -1,4 +1,5 @@
-// What the programs print: texts and key=value lines, gathered on a lent page. Each function answers how far the page is filled.
+// What the programs print: texts and key=value lines, gathered on a lent page. Each function answers how far the page
+// is filled.
 ghost use mathlib.Core.Path.{_≡_};
 ghost use mathlib.Core.List.{_++_};
 ghost use Prim.Native.Nat.{_+_, _-_, _≤_};
@@ -51,7 +52,8 @@ fn put_both(page: &mut [u8], at: usize, key: &[u8], text: &[u8]) -> usize
 
 // A key and a text. A line that has no room is left out whole.
 pub fn put_line(page: &mut [u8], at: usize, key: &[u8], text: &[u8]) -> usize
-    ensures { λ r. ⌜ (now (page .exit), r) ≡ withText (now (page .entry), at) (lineOf (now (key .entry)) (now (text .entry))) ⌝ }
+    ensures { λ r. ⌜ (now (page .exit), r)
+        ≡ withText (now (page .entry), at) (lineOf (now (key .entry)) (now (text .entry))) ⌝ }
 {
     if has_room(page.len(), at, key.len(), text.len()) {
         let a = put_both(page, at, key, text);
@@ -100,7 +102,8 @@ pub fn put_digits(page: &mut [u8], at: usize, n: u64) -> usize
 
 // A key and a number of at least so many digits.
 pub fn put_number(page: &mut [u8], at: usize, key: &[u8], n: u64, least: usize) -> usize
-    ensures { λ r. ⌜ (now (page .exit), r) ≡ withText (now (page .entry), at) (lineOf (now (key .entry)) (numberText least n)) ⌝ }
+    ensures { λ r. ⌜ (now (page .exit), r)
+        ≡ withText (now (page .entry), at) (lineOf (now (key .entry)) (numberText least n)) ⌝ }
 {
     let digits = spelt(n);
     let z = zeros(&digits, spare(least));

@@ -13,7 +13,8 @@ mod order;
 mod rest;
 mod step;
 
-// How far a file is read: before its header, after it, in a batch before and after its ordering party, in an item, after a batch, after the file trailer.
+// How far a file is read: before its header, after it, in a batch before and after its ordering party, in an item,
+// after a batch, after the file trailer.
 pub enum Stage {
     Start,
     Headed,
@@ -49,7 +50,8 @@ pub struct State {
     pub item: OpenItem,
 }
 
-// What the judging of a line comes to: the answer's number and column, the line's code where it is accepted, and the state after it.
+// What the judging of a line comes to: the answer's number and column, the line's code where it is accepted, and the
+// state after it.
 pub struct Judged {
     pub number: u8,
     pub column: u8,

@@ -1,7 +1,8 @@
 // The order of records: which kind may stand in a state.
 ghost use mathlib.Core.Path.{_≡_};
 ghost use Rattle.reading.specs.Step.{isDone};
-ghost use Rattle.reading.specs.Order.{stageNumber, isStage, nameNumber, isName, mayOpen, mayFix, mayEnd, mayPay, mayName, textsBy, mayText, mayRefer, mayDescribe, allowed};
+ghost use Rattle.reading.specs.Order.{stageNumber, isStage, nameNumber, isName, mayOpen, mayFix, mayEnd, mayPay};
+ghost use Rattle.reading.specs.Order.{mayName, textsBy, mayText, mayRefer, mayDescribe, allowed};
 use crate::Name;
 use crate::Stage;
 use crate::State;

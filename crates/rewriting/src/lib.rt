@@ -1,6 +1,7 @@
-// Writes an accepted file again without its city records: 'a file with city records is written again without those lines'.
-// The file's own lines are copied, not built anew. That they are what `writer::write` writes of the file's records, one after the
-// other from a state of its own, is proved of the bytes (`Promised`, by-writer); no call of the writer stands in this code.
+// Writes an accepted file again without its city records: 'a file with city records is written again without those
+// lines'. The file's own lines are copied, not built anew. That they are what `writer::write` writes of the file's
+// records, one after the other from a state of its own, is proved of the bytes (`Promised`, by-writer); no call of the
+// writer stands in this code.
 ghost use mathlib.Core.Path.{_≡_};
 ghost use Prim.Native.Nat.{_≤_};
 ghost use lib.ListN.{length};

@@ -1,5 +1,6 @@
-// Writes each file that its arguments name, or standard input, again to standard output: record by record from its reading, without
-// city records. A file is checked first and then read again, so that nothing of a refused one is written; its answer goes to standard error.
+// Writes each file that its arguments name, or standard input, again to standard output: record by record from its
+// reading, without city records. A file is checked first and then read again, so that nothing of a refused one is
+// written; its answer goes to standard error.
 use checking::Checked;
 use field::bytes::part;
 use format::Answer;
@@ -18,8 +19,8 @@ use writer::Entry;
 // Where output cannot be written, nothing more is: a whole file after half a one would look like one file.
 const NO_MORE: u8 = 3;
 
-// A file so far: the answer to the last line, the reader's state after it and the writer's, how much of the page is filled, whether it
-// was the last line, and whether all was read and all was written.
+// A file so far: the answer to the last line, the reader's state after it and the writer's, how much of the page is
+// filled, whether it was the last line, and whether all was read and all was written.
 struct Copied {
     answer: Answer,
     reader: State,
@@ -146,7 +147,8 @@ fn copy_next(before: Copied, rest: &[u8], failed: bool, page: &mut [u8]) -> Copi
     make_room(copied, page)
 }
 
-// The lines of a file that was accepted. (A proved loop has to end, so this one counts its turns down from a number that no run uses up.)
+// The lines of a file that was accepted. (A proved loop has to end, so this one counts its turns down from a number
+// that no run uses up.)
 fn copy_lines(start: Lines, fd: i32, name: &[u8], page: &mut [u8]) -> Copied {
     let mut buffer = [0u8; streams::BUFFER];
     let mut lines = start;

@@ -1,5 +1,6 @@
-// What the programs read and write: the files that their arguments name, standard input and standard output. What cannot be
-// opened, read or written is told on standard error, in one line. No contract can say which bytes C reads or writes.
+// What the programs read and write: the files that their arguments name, standard input and standard output. What
+// cannot be opened, read or written is told on standard error, in one line. No contract can say which bytes C reads or
+// writes.
 ghost use mathlib.Core.Path.{_≡_};
 ghost use Prim.Native.Nat.{_+_, _≤_};
 ghost use lib.ListN.{length};
@@ -41,8 +42,8 @@ fn open_named(name: &[u8]) -> i32 {
     fd
 }
 
-// Opens the file that argument i names, and puts the name at the start of the buffer. Without argument i it is standard input, whose
-// name is empty.
+// Opens the file that argument i names, and puts the name at the start of the buffer. Without argument i it is
+// standard input, whose name is empty.
 pub fn open(i: usize, name: &mut [u8]) -> Input
     ensures { λ r. ⌜ Counts (r .characters) (now (name .exit)) ⌝ }
 {

@@ -29,8 +29,8 @@ impl Lines {
         }
     }
 
-    // Reads on where all of the buffer is taken and the input of that name is not over. The buffer's length is a whole number of lines, so that
-    // none is cut but the last of an input.
+    // Reads on where all of the buffer is taken and the input of that name is not over. The buffer's length is a whole
+    // number of lines, so that none is cut but the last of an input.
     fn pulled(self, fd: i32, name: &[u8], buffer: &mut [u8]) -> Lines
         ensures left { λ r. ⌜ (hasLeft r || r .over) ≡ true ⌝ }
         ensures kept { λ r. ⌜ r ≡ pick (hasLeft self) self r ⌝ }
@@ -59,11 +59,14 @@ impl Lines {
         next_line(part(buffer, 0, self.end), self.at)
     }
 
-    // After that line, so that the one after it stands next: before the first line, which is not read yet, that is the first.
+    // After that line, so that the one after it stands next: before the first line, which is not read yet, that is the
+    // first.
     pub fn next(self, fd: i32, name: &[u8], buffer: &mut [u8]) -> Lines
         ensures left { λ r. ⌜ (hasLeft r || r .over) ≡ true ⌝ }
-        ensures kept { λ r. ⌜ r ≡ pick (hasLeft (passedOne self (now (buffer .entry)))) (passedOne self (now (buffer .entry))) r ⌝ }
-        ensures bytes { λ r. ⌜ now (buffer .exit) ≡ pick (hasLeft (passedOne self (now (buffer .entry)))) (now (buffer .entry)) (now (buffer .exit)) ⌝ }
+        ensures kept { λ r. ⌜ r
+            ≡ pick (hasLeft (passedOne self (now (buffer .entry)))) (passedOne self (now (buffer .entry))) r ⌝ }
+        ensures bytes { λ r. ⌜ now (buffer .exit)
+            ≡ pick (hasLeft (passedOne self (now (buffer .entry)))) (now (buffer .entry)) (now (buffer .exit)) ⌝ }
     {
         let line = self.line(buffer);
         let mut lines = self;

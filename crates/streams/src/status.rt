@@ -1,5 +1,5 @@
-// How a program ends. Rattle programs have no exit status: a program writes it as one digit to descriptor 3, where there is one, and
-// `clieop` ends with it.
+// How a program ends. Rattle programs have no exit status: a program writes it as one digit to descriptor 3, where
+// there is one, and `clieop` ends with it.
 ghost use mathlib.Core.Path.{_≡_};
 ghost use Prim.Native.Nat.{max};
 ghost use Rattle.streams.specs.Status.{statusOf, statusDigit};

@@ -1,4 +1,5 @@
-// Inputs that are read twice. One that cannot go back, such as a pipe, is put into a temporary file first, whose name is gone before it is filled.
+// Inputs that are read twice. One that cannot go back, such as a pipe, is put into a temporary file first, whose name
+// is gone before it is filled.
 ghost use mathlib.Core.Path.{_≡_};
 ghost use Rattle.machine.specs.Lists.{pick};
 ghost use Rattle.streams.specs.Taking.{unreadIf, fromStart, fromPlace};
@@ -8,7 +9,8 @@ use field::bytes::part;
 use libc::SEEK_CUR;
 use libc::SEEK_SET;
 
-// A descriptor, which is negative where there is none, the place where both readings begin, and whether it is a temporary file's.
+// A descriptor, which is negative where there is none, the place where both readings begin, and whether it is a
+// temporary file's.
 pub struct Source {
     pub fd: i32,
     pub start: i64,

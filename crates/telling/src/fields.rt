@@ -3,7 +3,8 @@ ghost use mathlib.Core.Path.{_≡_};
 ghost use mathlib.Core.List.{[]};
 ghost use lib.Dec.{eqb};
 ghost use Rattle.machine.specs.Lists.{pick};
-ghost use Rattle.format.specs.declared.Kind.the-variants.{FileHeader, BatchHeaderB, OrderingParty, Transaction, BatchTrailer};
+ghost use Rattle.format.specs.declared.Kind.the-variants.{FileHeader, BatchHeaderB, OrderingParty, Transaction};
+ghost use Rattle.format.specs.declared.Kind.the-variants.{BatchTrailer};
 ghost use Rattle.page.specs.Lines.{withText};
 ghost use Rattle.machine.specs.Texts.{characters};
 ghost use Rattle.telling.specs.Names.{nameIn, nameAfter, fieldName};
@@ -13,7 +14,8 @@ use page::put_text;
 
 // A field that is a record's last.
 fn put_one(page: &mut [u8], at: usize, column: u8, first: u8, name: &[u8]) -> usize
-    ensures { λ r. ⌜ (now (page .exit), r) ≡ withText (now (page .entry), at) (pick (eqb column first) (now (name .entry)) []) ⌝ }
+    ensures { λ r. ⌜ (now (page .exit), r)
+        ≡ withText (now (page .entry), at) (pick (eqb column first) (now (name .entry)) []) ⌝ }
 {
     if column == first {
         return put_text(page, at, name);
@@ -30,7 +32,8 @@ fn put_with_filler(
     name: &[u8],
     filler: u8,
 ) -> usize
-    ensures { λ r. ⌜ (now (page .exit), r) ≡ withText (now (page .entry), at) (pick (eqb column first) (now (name .entry)) (pick (eqb column filler) (characters "filler") [])) ⌝ }
+    ensures { λ r. ⌜ (now (page .exit), r) ≡ withText (now (page .entry), at)
+        (pick (eqb column first) (now (name .entry)) (pick (eqb column filler) (characters "filler") [])) ⌝ }
 {
     if column == first {
         return put_text(page, at, name);

@@ -1,4 +1,5 @@
-// Writes a file record by record: a record becomes a line, the reader judges it, and a line that it accepts goes to the lent room.
+// Writes a file record by record: a record becomes a line, the reader judges it, and a line that it accepts goes to
+// the lent room.
 ghost use mathlib.Core.Path.{_≡_};
 ghost use lib.ListN.{length};
 ghost use Rattle.reading.specs.Step.{stepAt};
