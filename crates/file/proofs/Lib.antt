@@ -1,3 +1,4 @@
+pub mod Standing
 pub mod Places
 pub mod Faults
 pub mod Lines

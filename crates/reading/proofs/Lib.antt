@@ -1,5 +1,4 @@
 pub mod Orders
-pub mod Standing
 pub mod Limits
 pub mod Running
 pub mod Runs
