@@ -94,8 +94,8 @@ fn measured_on(start: Lines, fd: i32, name: &[u8], buffer: &mut [u8]) -> Extent 
 
 // How many bytes of a refused line are shown: those before its end, where its own length is what is wrong or nobody
 // asked for it.
-fn shown_length(answer: u8, line: &[u8]) -> usize {
-    if (answer == format::BROKEN_LINE) | (answer == format::AFTER_TRAILER) {
+fn shown_length(number: u8, line: &[u8]) -> usize {
+    if (number == format::BROKEN_LINE) | (number == format::AFTER_TRAILER) {
         let n = length_of(measured(unmeasured(), line));
         if n < 50 {
             return n as usize;
@@ -138,15 +138,15 @@ fn filled(text: &[u8]) -> usize {
     n
 }
 
-fn shown(answer: u8, line: &[u8]) -> LineShown {
-    let n = shown_length(answer, line);
+fn shown(number: u8, line: &[u8]) -> LineShown {
+    let n = shown_length(number, line);
     let text = shown_text(part(line, 0, n));
     let count = filled(&text);
     let code = code_of(line);
     LineShown { code, text, count }
 }
 
-fn put_place(page: &mut [u8], at: usize, line: u64, column: u8, code: Code) -> usize {
+fn put_where(page: &mut [u8], at: usize, line: u64, column: u8, code: Code) -> usize {
     let a = put_text(page, at, b": line ");
     let b = put_digits(page, a, line);
     if column == 0 {
@@ -159,9 +159,9 @@ fn put_place(page: &mut [u8], at: usize, line: u64, column: u8, code: Code) -> u
 }
 
 // How a line is broken, where it is.
-fn put_how(page: &mut [u8], at: usize, answer: u8, m: Extent) -> usize {
+fn put_how(page: &mut [u8], at: usize, number: u8, m: Extent) -> usize {
     let n = length_of(m);
-    if answer != format::BROKEN_LINE {
+    if number != format::BROKEN_LINE {
         return at;
     }
     if !m.ended {
@@ -181,12 +181,12 @@ fn put_how(page: &mut [u8], at: usize, answer: u8, m: Extent) -> usize {
     put_text(page, b, b", not 50")
 }
 
-fn put_what(page: &mut [u8], at: usize, answer: u8, m: Extent) -> usize {
+fn put_what(page: &mut [u8], at: usize, number: u8, m: Extent) -> usize {
     let a = put_text(page, at, b": ");
-    let b = put_words(page, a, answer);
-    let c = put_how(page, b, answer, m);
+    let b = put_words(page, a, number);
+    let c = put_how(page, b, number, m);
     let d = put_text(page, c, b" (answer ");
-    let e = put_digits(page, d, answer as u64);
+    let e = put_digits(page, d, number as u64);
     put_text(page, e, b")\n")
 }
 
@@ -206,7 +206,7 @@ fn put_line_as_is(page: &mut [u8], at: usize, line: LineShown, column: u8) -> us
 
 fn put_refusal(page: &mut [u8], at: usize, answer: Answer, line: LineShown, m: Extent) -> usize {
     let code = line.code;
-    let a = put_place(page, at, answer.line, answer.column, code);
+    let a = put_where(page, at, answer.line, answer.column, code);
     let b = put_what(page, a, answer.number, m);
     if answer.number == format::ENDS_EARLY {
         return b;

@@ -6,13 +6,13 @@ use mathlib.Core.Bool.{Bool, true, false}
 use mathlib.Core.Option.{Option, none, some}
 use native.Mathlib.Omega.{arith}
 use borrow.Author.Needs.{needs}
-use borrow.Author.Tests.{eq-eqb, ne-eqb, eqb-true, eqb-false, le-leb, lt-leb}
+use borrow.Author.Tests.{eq-eqb, ne-eqb, eqb-false, le-leb, lt-leb}
 use lib.ListN.{length, set, take, drop, length-set, length-append, length-drop, drop-of-length-le}
 use lib.Seq.{take-at, drop-at, drop-drop, length-take-le}
 use lib.Dec.{leb, eqb}
-use Rattle.machine.specs.Lists.{pick, same, placed, putIn}
+use Rattle.machine.specs.Lists.{pick, same, pasted, putIn}
 use Rattle.machine.specs.Digits.{digitsOnto, decimal, valueAfter}
-use Rattle.format.specs.Answers.{refusal}
+use Rattle.format.specs.Answers.{refusal, acceptance}
 use Rattle.format.specs.declared.Answer.{Answer}
 use Rattle.format.specs.Cutting.{linesIn}
 use Rattle.format.specs.Rules.{typeOf}
@@ -20,7 +20,7 @@ use Rattle.format.specs.declared.TransactionType.{TransactionType}
 use Rattle.format.specs.declared.TransactionType.the-variants.{UncheckedCreditor, UncheckedSalary, Creditor, Salary, Debit, UncheckedDebit}
 use Rattle.format.specs.declared.TypeRead.{TypeRead}
 use Rattle.format.specs.declared.TypeRead.the-variants.{Of, NoType}
-use Rattle.field.proofs.Putting.{put-fits, length-placed, placed-both}
+use Rattle.field.proofs.Putting.{put-fits, length-pasted, pasted-both}
 use Rattle.reading.specs.Check.{checkOf}
 use Rattle.record.proofs.Typing.{of-case}
 use Rattle.items.specs.Search.{noFields, started, afterLines}
@@ -81,13 +81,13 @@ module _ {t u : List ℕ} (f : ItemFields) (texts : List ℕ) (h : length (f .re
   texts-put =
       let x = f .reference in
       let p = put-fits texts 128 x (omega (arith, h)) e in
-      let n = ap length p ∙ length-placed texts 128 x (omega (arith, h)) in
+      let n = ap length p ∙ length-pasted texts 128 x (omega (arith, h)) in
       let a : 144 ≡ 128 + length x = omega (arith, h) in
-      put-fits t 144 (f .name) (omega (arith, k, n)) g ∙ ap₂ (λ z m. placed z m (f .name)) p a ∙ placed-both texts 128 x (f .name) (omega (arith, h))
+      put-fits t 144 (f .name) (omega (arith, k, n)) g ∙ ap₂ (λ z m. pasted z m (f .name)) p a ∙ pasted-both texts 128 x (f .name) (omega (arith, h))
 
   -- everything from the reference on
   behind : drop 128 u ≡ f .reference ++ (f .name ++ drop (128 + length (f .reference ++ f .name)) texts)
-  unfolding textsWith placed
+  unfolding textsWith pasted
   behind =
       let both = f .reference ++ f .name in
       let rest : List ℕ = drop (128 + length both) texts in
@@ -109,7 +109,7 @@ module _ {t u : List ℕ} (f : ItemFields) (texts : List ℕ) (h : length (f .re
 pub ruleset texts = (texts-put, put-found, needs)
 
 texts-first : (f : ItemFields) (t : List ℕ) → 128 ≤ length t → take 128 (textsWith f t) ≡ take 128 t
-unfolding textsWith placed
+unfolding textsWith pasted
 texts-first f t l =
     let both = f .reference ++ f .name in
     let rest : List ℕ = drop (128 + length both) t in
@@ -120,12 +120,12 @@ texts-first f t l =
 -- a refusal without fields, or an item with a type
 data Shape (line : ℕ) : ItemRead → Type 0 where
   refusing : (number column : ℕ) → (number ≡ 0 → ⊥) → Shape line (answered (refusal number line column) noFields)
-  handing : (number column : ℕ) (f : ItemFields) → number ≡ 0 → isFound (f .kind) ≡ true → Shape line (answered (refusal number line column) f)
+  handing : (f : ItemFields) → isFound (f .kind) ≡ true → Shape line (answered (acceptance line) f)
 
 shape-by : (a : Answer) (f : ItemFields) (p q w : Bool) → eqb (a .number) 0 ≡ p → isFound (f .kind) ≡ q
-    → Shape (a .line) (pick p (pick q (pick w (answered a f) (answered (refusal 12 (a .line) 0) noFields)) (answered (refusal 13 (a .line) 0) noFields)) (answered a noFields))
+    → Shape (a .line) (pick p (pick q (pick w (answered (acceptance (a .line)) f) (answered (refusal 12 (a .line) 0) noFields)) (answered (refusal 13 (a .line) 0) noFields)) (answered a noFields))
 unfolding pick
-shape-by a f true true true e h = handing (a .number) (a .column) f (eqb-true (a .number) 0 e) h
+shape-by a f true true true e h = handing f h
 shape-by a f true true false e h = refusing 12 0 (λ z. absurd (omega (arith, z)))
 shape-by a f true false w e h = refusing 13 0 (λ z. absurd (omega (arith, z)))
 shape-by a f false q w e h = refusing (a .number) (a .column) (eqb-false (a .number) 0 e)
@@ -138,14 +138,13 @@ shape file batch item room =
 
 line-shape : {line : ℕ} {r : ItemRead} → Shape line r → r .answer .line ≡ line
 line-shape (refusing number column z) = refl
-line-shape (handing number column f z h) = refl
+line-shape (handing f h) = refl
 
 found-shape : {line : ℕ} {r : ItemRead} (before texts : List ℕ) → Shape line r → Held r texts → itemBy (r .answer) (itemNumbers r before) texts ≡ r
 unfolding itemBy pick itemNumbers numbersWith fieldsIn textsFound Held
 found-shape before texts (refusing number column z) h = rw (ne-eqb number 0 z) refl
-found-shape {line} before texts (handing number column f z g) h =
-    let k = ap (λ x. fieldsWith x (f .amount) (f .payer) (f .beneficiary) texts) (type-read (f .kind) g) ∙ h z in
-    rw (eq-eqb number 0 z) (ap (answered (refusal number line column)) k)
+found-shape {line} before texts (handing f g) h =
+    ap (answered (acceptance line)) (ap (λ x. fieldsWith x (f .amount) (f .payer) (f .beneficiary) texts) (type-read (f .kind) g) ∙ h refl)
 
 pub held-handed : (r : ItemRead) (texts : List ℕ) → textsFound (r .fields) texts ≡ r .fields → Held r texts
 unfolding Held
@@ -247,7 +246,7 @@ kept-by false q w x y i j k l z h = refl
 refused-kept : (file : List ℕ) (batch item : ℕ) (out : List ℕ) → (itemOf file batch item (length out) .answer .number ≡ 0 → ⊥) → roomAfter file batch item out ≡ out
 unfolding itemOf answeredBy roomAfter roomBy
 refused-kept file batch item out h =
-    kept-by (eqb (checkOf file .number) 0) (isFound (afterLines (started batch item) (linesIn file) .found .fields .kind)) (leb 128 (length out)) _ out _ _ _ _ (λ e. eqb-true (checkOf file .number) 0 e) h
+    kept-by (eqb (checkOf file .number) 0) (isFound (afterLines (started batch item) (linesIn file) .found .fields .kind)) (leb 128 (length out)) _ out _ _ _ _ (λ e. refl) h
 
 pub numbers-kept : (r : ItemRead) (numbers : List ℕ) → (r .answer .number ≡ 0 → ⊥) → numbers ≡ itemNumbers r numbers
 unfolding itemNumbers pick

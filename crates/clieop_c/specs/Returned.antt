@@ -4,7 +4,7 @@ use mathlib.Core.Path.{_≡_}
 use mathlib.Core.List.{List, [], _∷_, _++_}
 use lib.ListN.{length, getD, take, drop}
 use lib.Dec.{leb, eqb}
-use Rattle.machine.specs.Lists.{pick, placed}
+use Rattle.machine.specs.Lists.{pick, pasted}
 use Rattle.machine.specs.Digits.{valueOf, decimal}
 use Rattle.format.specs.Answers.{accepted}
 use Rattle.format.specs.declared.Answer.{Answer}
@@ -62,7 +62,7 @@ numbersWith f numbers = typeNumber (f .kind) ∷ f .amount ∷ f .payer ∷ f .b
 
 -- the reference and the name behind the 128 bytes of the descriptions
 unfoldable pub textsWith : ItemFields → List ℕ → List ℕ
-textsWith f texts = placed texts 128 (f .reference ++ f .name)
+textsWith f texts = pasted texts 128 (f .reference ++ f .name)
 
 -- 'A refusal .. leaves .. buffer untouched'
 unfoldable pub itemNumbers : ItemRead → List ℕ → List ℕ

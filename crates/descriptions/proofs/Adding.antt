@@ -7,7 +7,7 @@ use borrow.Author.Needs.{needs}
 use borrow.Author.Tests.{lt-ltb, le-ltb}
 use lib.ListN.{length, take, drop, length-append, length-take}
 use lib.Seq.{length-take-le}
-use Rattle.machine.specs.Lists.{pick, spaces, placed, putIn}
+use Rattle.machine.specs.Lists.{pick, spaces, pasted, putIn}
 use Rattle.field.proofs.Putting.{put-fits, put-front}
 use Rattle.descriptions.specs.Texts.{textsIn, textsOf, joined, inPlaces, textFrom, withText}
 use Rattle.descriptions.specs.declared.Descriptions.{Descriptions}
@@ -28,9 +28,9 @@ pub text-long : (t : List ℕ) → length (textFrom t) ≡ 32
 text-long t = length-take-le 32 (t ++ spaces 32) (omega (arith, length-append t (spaces 32)))
 
 -- a text at its place, as a list of texts in places
-text-put : (l t : List ℕ) (c : ℕ) {r : List ℕ} → r ≡ placed l (32 * c) (textFrom t)
+text-put : (l t : List ℕ) (c : ℕ) {r : List ℕ} → r ≡ pasted l (32 * c) (textFrom t)
     → _≡_ {A = Descriptions} (record { text = r; count = c + 1 }) (inPlaces l (textsIn c l ++ (textFrom t ∷ [])))
-unfolding placed
+unfolding pasted
 text-put l t c {r} u =
     let ts : List (List ℕ) = textsIn c l ++ (textFrom t ∷ []) in
     let j : joined ts ≡ take (32 * c) l ++ textFrom t = join-append (textsIn c l) (textFrom t ∷ []) ∙ ap₂ _++_ (join-texts c l) (append-nil (textFrom t)) in

@@ -11,8 +11,8 @@ use lib.Seq.{take-add, take-append-le, take-append-add, length-take-le, take-all
 use lib.Dec.{leb}
 use mir.Val.{Fits}
 use mir.Syntax.{w64}
-use Rattle.machine.specs.Lists.{pick, spaces, placed, putIn}
-use Rattle.field.proofs.Putting.{placed-front, put-both}
+use Rattle.machine.specs.Lists.{pick, spaces, pasted, putIn}
+use Rattle.field.proofs.Putting.{pasted-front, put-both}
 use Rattle.descriptions.specs.Texts.{least, textsIn, textsOf, joined, mergeOf, inPlaces, merged}
 use Rattle.descriptions.specs.declared.Descriptions.{Descriptions}
 
@@ -103,9 +103,9 @@ both-put f o n m {s} {t} {x} {r} h i k a b u v =
     let c : length s ≡ 32 * n = ap length a ∙ length-take-le (32 * n) f (omega arith) in
     let d : length t ≡ 32 * m = ap length b ∙ length-take-le (32 * m) o (omega arith) in
     let room : length (spaces 128) ≡ 128 = refl in
-    let e : r ≡ placed (spaces 128) 0 (s ++ t) = put-both (spaces 128) 0 s t (omega arith) u (v ∙ ap (λ y. putIn x y t) (omega arith)) in
+    let e : r ≡ pasted (spaces 128) 0 (s ++ t) = put-both (spaces 128) 0 s t (omega arith) u (v ∙ ap (λ y. putIn x y t) (omega arith)) in
     let l : length (s ++ t) ≡ 32 * (n + m) = length-append s t ∙ omega arith in
-    e ∙ placed-front (spaces 128) (s ++ t) ∙ ap₂ (λ y z. y ++ drop z (spaces 128)) (ap₂ _++_ a b) l
+    e ∙ pasted-front (spaces 128) (s ++ t) ∙ ap₂ (λ y z. y ++ drop z (spaces 128)) (ap₂ _++_ a b) l
 
 pub ruleset boths = (both-put, needs)
 

@@ -21,7 +21,7 @@ use Rattle.field.specs.declared.numbers.Digits.{Digits}
 use Rattle.field.specs.declared.numbers.Numeric.{Numeric}
 use Rattle.field.specs.Rows.{firstAnswer, fieldAnswer}
 use Rattle.field.specs.Leaf.{noDigits, digitsOf, wrongAs, rightOf, numericBy, numericAnswer, numericOf, rangedBy}
-use Rattle.field.proofs.Picks.{picks, told}
+use Rattle.field.proofs.Picks.{picks, by-call}
 
 -- ## The next of the digits that are left
 
@@ -106,7 +106,7 @@ module _ (l : List ℕ) where
     unfolding digitsOf pick
     digits-are e k = rw (le-leb (length l) 18 h, e, k)
 
-pub ruleset digits = (digits-long, digits-not, digits-are, told, needs)
+pub ruleset digits = (digits-long, digits-not, digits-are, by-call, needs)
 
 pub over : {A : Type 0} (f : List ℕ → A) {p q : List ℕ} {r : A} → p ≡ q → r ≡ f p → r ≡ f q
 over f d e = e ∙ ap f d

@@ -17,8 +17,8 @@ module _ {A : Type 0} {x : A} (b : Bool) (t e : A) where
 -- ## What a test is
 
 -- a test that a call answered
-pub told : {r b v : Bool} → r ≡ b → r ≡ v → b ≡ v
-told p q = sym p ∙ q
+pub by-call : {r b v : Bool} → r ≡ b → r ≡ v → b ≡ v
+by-call p q = sym p ∙ q
 
 pub both-are : (b d : Bool) → b ≡ true → d ≡ true → (b && d) ≡ true
 both-are b d h k = rw (h, k)
@@ -35,7 +35,7 @@ first-holds b d h = rw h
 pub else-is : {v : Bool} (b d : Bool) → b ≡ false → d ≡ v → (b || d) ≡ v
 else-is b d h k = rw (h, k)
 
-pub ruleset tests = (told, both-are, first-fails, second-fails, first-holds, else-is, lt-ltb, le-ltb, le-leb, lt-leb, eq-eqb, ne-eqb)
+pub ruleset tests = (by-call, both-are, first-fails, second-fails, first-holds, else-is, lt-ltb, le-ltb, le-leb, lt-leb, eq-eqb, ne-eqb)
 
 -- ## What a function answers: two tests, one after the other
 

@@ -8,7 +8,7 @@ use borrow.Author.Needs.{needs}
 use borrow.Author.Tests.{le-leb, lt-leb}
 use lib.ListN.{length, getD, set, take, drop, length-set, length-append}
 use lib.Seq.{paste, paste-zero, paste-suc, length-paste, take-paste, drop-paste, take-all, drop-drop}
-use Rattle.machine.specs.Lists.{pick, placed, putIn}
+use Rattle.machine.specs.Lists.{pick, pasted, putIn}
 
 -- ## Byte by byte
 
@@ -22,8 +22,8 @@ pub record Putting (room text now : List ℕ) (at i : ℕ) : Type 0 where
 pub put-none : (room text : List ℕ) (at : ℕ) → at + length text ≤ length room → Putting room text room at 0
 put-none room text at h = record { within = omega arith; fits = h; kept = refl; is = paste-zero room at text }
 
-whole : (room : List ℕ) (at : ℕ) (text : List ℕ) → paste room at text (length text) ≡ placed room at text
-unfolding placed
+whole : (room : List ℕ) (at : ℕ) (text : List ℕ) → paste room at text (length text) ≡ pasted room at text
+unfolding pasted
 whole room at text = ap (λ x. (take at room ++ x) ++ drop (at + length text) room) (take-all (length text) text (omega arith))
 
 module _ {room text now : List ℕ} {at i : ℕ} (p : Putting room text now at i) where
@@ -39,7 +39,7 @@ module _ {room text now : List ℕ} {at i : ℕ} (p : Putting room text now at i
   pub put-in : i < length text → at + i < length now
   put-in k = omega (arith, p .kept, p .fits)
 
-  pub put-all : length text ≤ i → now ≡ placed room at text
+  pub put-all : length text ≤ i → now ≡ pasted room at text
   put-all k = let e : i ≡ length text = omega (arith, p .within) in p .is ∙ ap (paste room at text) e ∙ whole room at text
 
   pub put-kept : length now ≡ length room
@@ -50,7 +50,7 @@ pub ruleset puts = (put-none, put-more, put-in, put-all, put-kept, needs)
 -- ## Where it fits
 
 module _ (room : List ℕ) (at : ℕ) (text : List ℕ) where
-  pub put-fitting : {o : List ℕ} → at ≤ length room → length text ≤ length room - at → o ≡ placed room at text → o ≡ putIn room at text
+  pub put-fitting : {o : List ℕ} → at ≤ length room → length text ≤ length room - at → o ≡ pasted room at text → o ≡ putIn room at text
   unfolding putIn pick
   put-fitting h k e = e ∙ rw (le-leb (at + length text) (length room) (omega arith)) refl
 
@@ -66,39 +66,39 @@ pub ruleset fittings = (put-fitting, put-beyond, put-long, needs)
 
 -- ## For those who put
 
-pub put-fits : {o : List ℕ} (room : List ℕ) (at : ℕ) (text : List ℕ) → at + length text ≤ length room → o ≡ putIn room at text → o ≡ placed room at text
+pub put-fits : {o : List ℕ} (room : List ℕ) (at : ℕ) (text : List ℕ) → at + length text ≤ length room → o ≡ putIn room at text → o ≡ pasted room at text
 unfolding putIn pick
 put-fits room at text h e = e ∙ rw (le-leb (at + length text) (length room) h) refl
 
-pub placed-front : (room text : List ℕ) → placed room 0 text ≡ text ++ drop (length text) room
-unfolding placed
-placed-front room text = let e : 0 + length text ≡ length text = omega arith in ap (λ n. text ++ drop n room) e
+pub pasted-front : (room text : List ℕ) → pasted room 0 text ≡ text ++ drop (length text) room
+unfolding pasted
+pasted-front room text = let e : 0 + length text ≡ length text = omega arith in ap (λ n. text ++ drop n room) e
 
 pub put-front : {o : List ℕ} (room text : List ℕ) → length text ≤ length room → o ≡ putIn room 0 text → o ≡ text ++ drop (length text) room
-put-front room text h e = put-fits room 0 text (omega arith) e ∙ placed-front room text
+put-front room text h e = put-fits room 0 text (omega arith) e ∙ pasted-front room text
 
-pub length-placed : (room : List ℕ) (at : ℕ) (text : List ℕ) → at + length text ≤ length room → length (placed room at text) ≡ length room
-length-placed room at text h = ap length (sym (whole room at text)) ∙ length-paste room at text (length text) h (omega arith)
+pub length-pasted : (room : List ℕ) (at : ℕ) (text : List ℕ) → at + length text ≤ length room → length (pasted room at text) ≡ length room
+length-pasted room at text h = ap length (sym (whole room at text)) ∙ length-paste room at text (length text) h (omega arith)
 
 -- one text after the other is both at once
-pub placed-both : (d : List ℕ) (at : ℕ) (s t : List ℕ) → at + length s ≤ length d → placed (placed d at s) (at + length s) t ≡ placed d at (s ++ t)
-unfolding placed
-placed-both d at s t h =
+pub pasted-both : (d : List ℕ) (at : ℕ) (s t : List ℕ) → at + length s ≤ length d → pasted (pasted d at s) (at + length s) t ≡ pasted d at (s ++ t)
+unfolding pasted
+pasted-both d at s t h =
     let a : length s ≤ length s = omega arith in
     let b : at ≤ length d = omega arith in
     let w = whole d at s in
-    let f : take (at + length s) (placed d at s) ≡ take at d ++ s = ap (take (at + length s)) (sym w) ∙ take-paste d at s (length s) b a ∙ ap (λ x. take at d ++ x) (take-all (length s) s a) in
-    let g : drop (at + length s) (placed d at s) ≡ drop (at + length s) d = ap (drop (at + length s)) (sym w) ∙ drop-paste d at s (length s) b a in
+    let f : take (at + length s) (pasted d at s) ≡ take at d ++ s = ap (take (at + length s)) (sym w) ∙ take-paste d at s (length s) b a ∙ ap (λ x. take at d ++ x) (take-all (length s) s a) in
+    let g : drop (at + length s) (pasted d at s) ≡ drop (at + length s) d = ap (drop (at + length s)) (sym w) ∙ drop-paste d at s (length s) b a in
     let q : at + length s + length t ≡ at + length (s ++ t) = rw length-append (omega arith) in
-    let r : drop (at + length s + length t) (placed d at s) ≡ drop (at + length (s ++ t)) d
-    = sym (drop-drop (length t) (at + length s) (placed d at s)) ∙ ap (drop (length t)) g ∙ drop-drop (length t) (at + length s) d ∙ ap (λ n. drop n d) q in
+    let r : drop (at + length s + length t) (pasted d at s) ≡ drop (at + length (s ++ t)) d
+    = sym (drop-drop (length t) (at + length s) (pasted d at s)) ∙ ap (drop (length t)) g ∙ drop-drop (length t) (at + length s) d ∙ ap (λ n. drop n d) q in
     ap₂ (λ x y. (x ++ t) ++ y) f r ∙ ap (λ x. x ++ drop (at + length (s ++ t)) d) (append-assoc (take at d) s t)
 
 -- a text after another that stands
-pub put-next : {p o : List ℕ} (room : List ℕ) (at : ℕ) (s t : List ℕ) → at + (length s + length t) ≤ length room → p ≡ placed room at s → o ≡ putIn p (at + length s) t → o ≡ placed room at (s ++ t)
+pub put-next : {p o : List ℕ} (room : List ℕ) (at : ℕ) (s t : List ℕ) → at + (length s + length t) ≤ length room → p ≡ pasted room at s → o ≡ putIn p (at + length s) t → o ≡ pasted room at (s ++ t)
 put-next {p} room at s t h e f =
-    let k : length p ≡ length room = ap length e ∙ length-placed room at s (omega arith) in
-    put-fits p (at + length s) t (omega arith) f ∙ ap (λ u. placed u (at + length s) t) e ∙ placed-both room at s t (omega arith)
+    let k : length p ≡ length room = ap length e ∙ length-pasted room at s (omega arith) in
+    put-fits p (at + length s) t (omega arith) f ∙ ap (λ u. pasted u (at + length s) t) e ∙ pasted-both room at s t (omega arith)
 
-pub put-both : {p o : List ℕ} (room : List ℕ) (at : ℕ) (s t : List ℕ) → at + (length s + length t) ≤ length room → p ≡ putIn room at s → o ≡ putIn p (at + length s) t → o ≡ placed room at (s ++ t)
+pub put-both : {p o : List ℕ} (room : List ℕ) (at : ℕ) (s t : List ℕ) → at + (length s + length t) ≤ length room → p ≡ putIn room at s → o ≡ putIn p (at + length s) t → o ≡ pasted room at (s ++ t)
 put-both room at s t h e = put-next room at s t h (put-fits room at s (omega arith) e)

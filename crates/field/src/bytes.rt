@@ -2,7 +2,7 @@
 ghost use mathlib.Core.Path.{_≡_};
 ghost use Prim.Native.Nat.{_+_, _≤_};
 ghost use lib.ListN.{length, take, drop};
-ghost use Rattle.machine.specs.Lists.{all, same, placed, putIn, isDigit, isSpace};
+ghost use Rattle.machine.specs.Lists.{all, same, pasted, putIn, isDigit, isSpace};
 ghost use Rattle.format.specs.Cutting.{nextLine};
 ghost use Rattle.format.specs.Fields.{printable, leftJustified};
 
@@ -110,7 +110,7 @@ pub(crate) fn is_left_justified(s: &[u8]) -> bool
 
 fn copy(text: &[u8], at: usize, room: &mut [u8])
     requires { ⌜ at + length (now text) ≤ length (now room) ⌝ }
-    ensures { λ _. ⌜ now (room .exit) ≡ placed (now (room .entry)) at (now (text .entry)) ⌝ }
+    ensures { λ _. ⌜ now (room .exit) ≡ pasted (now (room .entry)) at (now (text .entry)) ⌝ }
 {
     let mut i: usize = 0;
     while i < text.len() {

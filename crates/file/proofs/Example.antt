@@ -7,22 +7,13 @@ use Rattle.format.specs.Rules.{isTestCode, daysIn, isDate, isDesiredDate, isIde
 use Rattle.format.specs.Language.{ItemOk, BatchOk, noneBefore, Valid, crlf, linesOf, Reads}
 use Rattle.format.specs.declared.Group.the-variants.{Payments}
 use Rattle.file.specs.Example.{example, salary, uncheckedSalary, exampleBatch, exampleFile}
+use Rattle.file.proofs.Paying.{payment-ok}
 
 salary-ok : ItemOk Payments 123456789 salary
 unfolding same pick weighted isEleven isOrderingAccount isAccount isOwnIf typeOf
 salary-ok =
     record {
-      transaction-ok = record {
-        type-fits = (refl, tt);
-        type-in = tt;
-        amount-in = omega arith;
-        payer-in = omega arith;
-        payer-ok = tt;
-        beneficiary-in = omega arith;
-        beneficiary-ok = tt;
-        own-payer = tt;
-        own-beneficiary = tt;
-      };
+      transaction-ok = payment-ok (refl, tt) tt (omega arith) (omega arith) tt;
       reference-ok = tt;
       descriptions-ok = tt;
       room = omega arith;
@@ -33,17 +24,7 @@ unchecked-ok : ItemOk Payments 123456789 uncheckedSalary
 unfolding same pick weighted isEleven isOrderingAccount isAccount isOwnIf typeOf
 unchecked-ok =
     record {
-      transaction-ok = record {
-        type-fits = (refl, tt);
-        type-in = tt;
-        amount-in = omega arith;
-        payer-in = omega arith;
-        payer-ok = tt;
-        beneficiary-in = omega arith;
-        beneficiary-ok = tt;
-        own-payer = tt;
-        own-beneficiary = tt;
-      };
+      transaction-ok = payment-ok (refl, tt) tt (omega arith) (omega arith) tt;
       reference-ok = tt;
       descriptions-ok = tt;
       room = omega arith;

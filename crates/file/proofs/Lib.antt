@@ -9,6 +9,7 @@ pub mod Reached
 pub mod Run
 pub mod Counted
 pub mod Meaning
+pub mod Paying
 pub mod Longest
 pub mod Example
 pub mod Cases

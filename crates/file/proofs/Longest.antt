@@ -20,6 +20,7 @@ use Rattle.format.proofs.Complete.{complete}
 use Rattle.reading.specs.State.{maxLine}
 use Rattle.reading.specs.Check.{checkOf}
 use Rattle.file.specs.Longest.{Longest}
+use Rattle.file.proofs.Paying.{payment-ok}
 use Rattle.file.proofs.Meaning.{language, lines-read, none-longer}
 
 -- ## A line a record
@@ -52,17 +53,7 @@ item-ok : ItemOk Payments 123456789 item
 unfolding item same pick weighted isEleven isOrderingAccount isAccount isOwnIf typeOf
 item-ok =
     record {
-      transaction-ok = record {
-        type-fits = (refl, tt);
-        type-in = tt;
-        amount-in = omega arith;
-        payer-in = omega arith;
-        payer-ok = tt;
-        beneficiary-in = omega arith;
-        beneficiary-ok = tt;
-        own-payer = tt;
-        own-beneficiary = tt;
-      };
+      transaction-ok = payment-ok (refl, tt) tt (omega arith) (omega arith) tt;
       reference-ok = (refl, tt);
       descriptions-ok = ((refl, tt), ((refl, tt), ((refl, tt), tt)));
       room = omega arith;

@@ -18,7 +18,7 @@ use Rattle.file.proofs.Counted.{each-counted}
 use Rattle.file.proofs.Run.{Says, yes, no, same-answer}
 
 -- of an answer that says what the language's reader says
-means-as : (b : List ℕ) {a : Answer} {r : base.Answer} → Says a r → readFile b ≡ r → Means b a
+means-as : (b : List ℕ) {a : Answer} {r : base.Result} → Says a r → readFile b ≡ r → Means b a
 means-as b (yes n h) e =
     record {
       accepted-exactly = (λ z. the.language b .0 (n, e), λ f. refl);
@@ -73,7 +73,7 @@ never-beyond b e = omega (arith, means b .numbers)
 pub none-longer : (b : List ℕ) (n : ℕ) → checkOf b ≡ acceptance n → n ≤ maxLine
 none-longer b n e = by (same-answer b) e
   where
-    by : {a : Answer} {r : base.Answer} → Says a r → a ≡ acceptance n → n ≤ maxLine
+    by : {a : Answer} {r : base.Result} → Says a r → a ≡ acceptance n → n ≤ maxLine
     by (yes m h) e = subst (λ (r : Answer). r .line ≤ maxLine) e h
     by (no k m c h) e = let q : k ≡ 0 = ap (λ (r : Answer). r .number) e in absurd (omega arith)
 

@@ -42,7 +42,7 @@ use Rattle.file.proofs.Lines.{Agrees, goes, stops, line-agrees}
 use Rattle.file.proofs.Reach.{Reach, reach-start, reach-line, reach-within, reach-next}
 
 -- the same answer
-pub data Says : Answer → base.Answer → Type 0 where
+pub data Says : Answer → base.Result → Type 0 where
   yes : (n : ℕ) → n ≤ 6999369995 → Says (acceptance n) (base.accepted n)
   no : (number n column : ℕ) → In 1 11 number → Says (refusal number n column) (base.refused number n column)
 
@@ -76,11 +76,11 @@ step-50 s c = ap₂ (λ c l. the.found (contextOf (s .before) (s .batch)) c l (t
 step-next : (s : State) (b : List ℕ) → step (placeOf s) (nextLine b) ≡ step (placeOf s) (take 50 b)
 step-next s b = sym (step-50 s (nextLine b)) ∙ ap (step (placeOf s)) (take-take 50 (cutOf b .bytes) b (omega (arith, cut-bytes b)))
 
-abbrev theRun : ℕ → the.State → ℕ → List ℕ → base.Answer
+abbrev theRun : ℕ → the.State → ℕ → List ℕ → base.Result
 theRun k s n b = run the.State step isEnd cut turn k s noEnding n b
 
 -- from a line that is cut off, or none
-abbrev onCut : ℕ → State → Split → base.Answer
+abbrev onCut : ℕ → State → Split → base.Result
 onCut k s o = on-line the.State step isEnd cut turn o (placeOf s) noEnding (s .line) (λ u e r. theRun k u (suc (s .line)) r)
 
 -- no bytes remain
@@ -96,7 +96,7 @@ module _ (k : ℕ) (ih : (j : Judged) (b : List ℕ) → length b < k → j .num
   abbrev answered : Judged → Answer
   answered j = answerBy (goingOn j (linesIn (afterNext b)))
 
-  abbrev rest : the.State → base.Answer
+  abbrev rest : the.State → base.Result
   rest u = theRun k u (suc (s .line)) (afterNext b)
 
   -- a refusal names the next line

@@ -7,7 +7,7 @@ use Prim.Native.Nat.{ℕ, suc, _-_}
 use native.Mathlib.Omega.{arith}
 use lib.ListN.{length, drop, length-append}
 use lib.Dec.{T}
-use Rattle.machine.proofs.Base.{next, Answer, accepted, refused, append-inj}
+use Rattle.machine.proofs.Base.{next, Result, accepted, refused, append-inj}
 use Rattle.machine.proofs.Lines.{answer, Acc, stop, line, accepts, accepted-lines, refusal}
 use Rattle.format.specs.Language.{Rec, File, Ending, endBytes, lineOf, linesOf, Reads}
 use Rattle.format.specs.Cutting.{EndingSoFar, noEnding, cut, turn, firstLines, AreLines}
@@ -21,7 +21,7 @@ use Rattle.format.proofs.Live.{Invariant, invariant-kept, live}
 use Rattle.format.proofs.One.{one-file}
 
 -- the reader, on the bytes of a file
-unfoldable pub readFile : List ℕ → Answer
+unfoldable pub readFile : List ℕ → Result
 readFile b = answer State step isEnd cut turn begin noEnding b
 
 abbrev Takes : State → EndingSoFar → List ℕ → Type 0

@@ -8,7 +8,7 @@ use borrow.Author.Needs.{needs}
 use borrow.Author.Tests.{eq-eqb, ne-eqb, le-leb, lt-leb}
 use lib.ListN.{length, drop}
 use Rattle.machine.specs.Lists.{pick, putIn}
-use Rattle.format.specs.Answers.{refusal}
+use Rattle.format.specs.Answers.{refusal, acceptance}
 use Rattle.format.specs.declared.Answer.{Answer}
 use Rattle.format.specs.Cutting.{linesIn}
 use Rattle.format.specs.Rules.{mostDescriptions}
@@ -43,9 +43,9 @@ module _ (s : Search) (a : Answer) (room : ℕ) where
   unfolding answeredBy pick
   by-room z e f l g h = h ∙ ap (λ b. answered b noFields) g ∙ rw (eq-eqb _ _ z, ← e, f, lt-leb 128 room l)
 
-  pub by-item : {q : Bool} → a .number ≡ 0 → q ≡ isFound (s .found .fields .kind) → q ≡ true → 128 ≤ room → answered a (s .found .fields) ≡ answeredBy s a room
+  pub by-item : {b : Answer} {q : Bool} → a .number ≡ 0 → q ≡ isFound (s .found .fields .kind) → q ≡ true → 128 ≤ room → b ≡ acceptance (a .line) → answered b (s .found .fields) ≡ answeredBy s a room
   unfolding answeredBy pick
-  by-item z e f l = rw (eq-eqb _ _ z, ← e, f, le-leb 128 room l)
+  by-item z e f l g = ap (λ b. answered b (s .found .fields)) g ∙ rw (eq-eqb _ _ z, ← e, f, le-leb 128 room l)
 
 module _ (s : Search) (a : Answer) (out : List ℕ) where
   pub room-refused : (a .number ≡ 0 → ⊥) → out ≡ roomBy s a out

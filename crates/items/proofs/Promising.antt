@@ -146,12 +146,10 @@ reading-finds file f b n r =
 
 -- ## The answer, and the room
 
-answer-of : (s : Search) (a : Answer) (room : ℕ) → a .number ≡ 0 → a .column ≡ 0 → (x : Option ItemAt) → Finds (s .found) x → answeredBy s a room ≡ handedOut (a .line) x room
+answer-of : (s : Search) (a : Answer) (room : ℕ) → a .number ≡ 0 → (x : Option ItemAt) → Finds (s .found) x → answeredBy s a room ≡ handedOut (a .line) x room
 unfolding answeredBy pick
-answer-of s a room z c none h = rw (eq-eqb _ _ z, h)
-answer-of s a room z c (some x) h =
-    let b : a ≡ acceptance (a .line) = λ i. refusal (z i) (a .line) (c i) in
-    rw (eq-eqb _ _ z, h .0) (ap₂ (λ b y. pick (leb 128 room) (answered b y) (answered (refusal 12 (a .line) 0) noFields)) b (h .1 .0))
+answer-of s a room z none h = rw (eq-eqb _ _ z, h)
+answer-of s a room z (some x) h = rw (eq-eqb _ _ z, h .0, h .1 .0)
 
 room-of : (s : Search) (a : Answer) (out : List ℕ) → a .number ≡ 0 → (x : Option ItemAt) → Finds (s .found) x → roomBy s a out ≡ roomWith x out
 unfolding roomBy pick
@@ -178,8 +176,8 @@ module _ (file : List ℕ) (batch item : ℕ) where
     handed-of : (f : File) → Reads file f → asked ≡ handedOut (checkOf file .line) (itemAt f batch item) room
     unfolding asked searched
     handed-of f r =
-        let z = means file .accepted-exactly .1 (f, r) in
-        answer-of (afterLines (started batch item) (linesIn file)) (checkOf file) room z (means file .accepted-lines z .1) (itemAt f batch item) (reading-finds file f batch item r)
+        answer-of (afterLines (started batch item) (linesIn file)) (checkOf file) room (means file .accepted-exactly .1 (f, r)) (itemAt f batch item)
+        (reading-finds file f batch item r)
 
     line-of : InLanguage file → asked .answer .line ≡ checkOf file .line
     line-of l = ap (λ (r : ItemRead). r .answer .line) (handed-of (l .0) (l .1)) ∙ handed-line (checkOf file .line) (itemAt (l .0) batch item) room

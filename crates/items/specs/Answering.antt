@@ -5,7 +5,7 @@ use mathlib.Core.Bool.{Bool, true, false, _&&_}
 use lib.ListN.{length, drop}
 use lib.Dec.{leb, eqb}
 use Rattle.machine.specs.Lists.{pick}
-use Rattle.format.specs.Answers.{accepted, noRoom, noSuchItem, beyondLimits, refusal}
+use Rattle.format.specs.Answers.{accepted, noRoom, noSuchItem, beyondLimits, refusal, acceptance}
 use Rattle.format.specs.declared.Answer.{Answer}
 use Rattle.format.specs.Cutting.{linesIn}
 use Rattle.format.specs.Rules.{maxFixed, maxDescriptions, mostDescriptions}
@@ -35,7 +35,7 @@ unfoldable pub answeredBy : Search → Answer → ℕ → ItemRead
 answeredBy s a room =
     pick (eqb (a .number) accepted)
     (pick (isFound (s .found .fields .kind))
-    (pick (leb 128 room) (answered a (s .found .fields))
+    (pick (leb 128 room) (answered (acceptance (a .line)) (s .found .fields))
     (answered (refusal noRoom (a .line) 0) noFields))
     (answered (refusal noSuchItem (a .line) 0) noFields))
     (answered a noFields)

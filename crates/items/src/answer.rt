@@ -71,10 +71,8 @@ impl Search {
             }
             let texts = found.texts();
             put(&texts, 0, out);
-            return ItemRead {
-                answer: file,
-                fields,
-            };
+            let answer = Answer::accepted(file.line);
+            return ItemRead { answer, fields };
         }
         refused(Answer::refusal(format::NO_SUCH_ITEM, file.line, 0))
     }

@@ -9,7 +9,7 @@ use native.Mathlib.Omega.{arith}
 use lib.ListN.{length}
 use lib.Dec.{T, T-not}
 use Rattle.machine.specs.Lines.{Split, firstOf, front, Exactly, no-lines, one-more}
-use Rattle.machine.proofs.Base.{Outcome, next, refuse, Answer, accepted, refused, of-eq, of-eq-not, next≢refuse}
+use Rattle.machine.proofs.Base.{Outcome, next, refuse, Result, accepted, refused, of-eq, of-eq-not, next≢refuse}
 
 -- what is owed of one cut: the line and the rest are the bytes; the rest is less; the line is cut off the same whatever follows it
 pub record Cuts (cut : List ℕ → Split) : Type 0 where
@@ -18,34 +18,34 @@ pub record Cuts (cut : List ℕ → Split) : Type 0 where
   pub stable : (b c r : List ℕ) → cut b ≡ some (c, r) → (r′ : List ℕ) → cut (c ++ r′) ≡ some (c, r′)
 
 module _ (S : Type 0) (step : S → List ℕ → Outcome S) (isEnd : S → Bool) {E : Type 0} (cut : E → List ℕ → Split) (turn : E → List ℕ → E) where
-  abbrev pub follow : Outcome S → ℕ → (S → Answer) → Answer
+  abbrev pub follow : Outcome S → ℕ → (S → Result) → Result
   follow (next s) n k = k s
   follow (refuse c col) n k = refused c (suc n) col
 
-  abbrev pub on-line : Split → S → E → ℕ → (S → E → List ℕ → Answer) → Answer
+  abbrev pub on-line : Split → S → E → ℕ → (S → E → List ℕ → Result) → Result
   on-line none s e n k = refused 1 (suc n) 0
   on-line (some (c, r)) s e n k = follow (step s c) n (λ s′. k s′ (turn e c) r)
 
   -- n lines are read; the fuel is more than the bytes that are left
-  unfoldable pub run : ℕ → S → E → ℕ → List ℕ → Answer
+  unfoldable pub run : ℕ → S → E → ℕ → List ℕ → Result
   run zero s e n b = refused 10 (suc n) 0
   run (suc k) s e n [] = cond (isEnd s) (accepted n) (refused 10 (suc n) 0)
   run (suc k) s e n (x ∷ xs) = cond (isEnd s) (refused 11 (suc n) 0) (on-line (cut e (x ∷ xs)) s e n (λ s′ e′ r. run k s′ e′ (suc n) r))
 
-  unfoldable pub answer : S → E → List ℕ → Answer
+  unfoldable pub answer : S → E → List ℕ → Result
   answer s e b = run (suc (length b)) s e 0 b
 
   pub data Acc : S → E → List ℕ → Type 0 where
     stop : {s : S} {e : E} → T (isEnd s) → Acc s e []
     line : {s : S} {e : E} {b : List ℕ} (s′ : S) (c r : List ℕ) → T (not (isEnd s)) → cut e b ≡ some (c, r) → step s c ≡ next s′ → Acc s′ (turn e c) r → Acc s e b
 
-  data Trace : S → E → ℕ → List ℕ → Answer → Type 0 where
+  data Trace : S → E → ℕ → List ℕ → Result → Type 0 where
     t-end : {s : S} {e : E} {n : ℕ} → T (isEnd s) → Trace s e n [] (accepted n)
     t-early : {s : S} {e : E} {n : ℕ} → T (not (isEnd s)) → Trace s e n [] (refused 10 (suc n) 0)
     t-late : {s : S} {e : E} {n x : ℕ} {xs : List ℕ} → T (isEnd s) → Trace s e n (x ∷ xs) (refused 11 (suc n) 0)
     t-broken : {s : S} {e : E} {n x : ℕ} {xs : List ℕ} → T (not (isEnd s)) → cut e (x ∷ xs) ≡ none → Trace s e n (x ∷ xs) (refused 1 (suc n) 0)
     t-refuse : {s : S} {e : E} {n : ℕ} {b : List ℕ} {k col : ℕ} (c r : List ℕ) → T (not (isEnd s)) → cut e b ≡ some (c, r) → step s c ≡ refuse k col → Trace s e n b (refused k (suc n) col)
-    t-next : {s : S} {e : E} {n : ℕ} {b : List ℕ} {a : Answer} (s′ : S) (c r : List ℕ) → T (not (isEnd s)) → cut e b ≡ some (c, r) → step s c ≡ next s′ → Trace s′ (turn e c) (suc n) r a → Trace s e n b a
+    t-next : {s : S} {e : E} {n : ℕ} {b : List ℕ} {a : Result} (s′ : S) (c r : List ℕ) → T (not (isEnd s)) → cut e b ≡ some (c, r) → step s c ≡ next s′ → Trace s′ (turn e c) (suc n) r a → Trace s e n b a
 
   module _ (L : (e : E) → Cuts (cut e)) where
     nil-uncut : (e : E) (c r : List ℕ) → cut e [] ≡ some (c, r) → ⊥
@@ -95,7 +95,7 @@ module _ (S : Type 0) (step : S → List ℕ → Outcome S) (isEnd : S → Bool)
     trace-accepted (t-end t) = stop t
     trace-accepted (t-next s′ c r t h g p) = line s′ c r t h g (trace-accepted p)
 
-    acc-trace : {s : S} {e : E} {n : ℕ} {b : List ℕ} {a : Answer} → Trace s e n b a → Acc s e b → (m : ℕ) × (a ≡ accepted m)
+    acc-trace : {s : S} {e : E} {n : ℕ} {b : List ℕ} {a : Result} → Trace s e n b a → Acc s e b → (m : ℕ) × (a ≡ accepted m)
     acc-trace (t-end {n = n} t) a = (n, refl)
     acc-trace (t-early t) a = absurd (acc-empty t a)
     acc-trace (t-late t) a = absurd (acc-more t a)

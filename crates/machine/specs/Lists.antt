@@ -35,9 +35,9 @@ abbrev pub inRange : ℕ → ℕ → ℕ → Bool
 inRange low high n = leb low n && leb n high
 
 -- a text at a place of a room, and the other bytes as they were
-unfoldable pub placed : List ℕ → ℕ → List ℕ → List ℕ
-placed room at text = (take at room ++ text) ++ drop (at + length text) room
+unfoldable pub pasted : List ℕ → ℕ → List ℕ → List ℕ
+pasted room at text = (take at room ++ text) ++ drop (at + length text) room
 
 -- where it fits
 unfoldable pub putIn : List ℕ → ℕ → List ℕ → List ℕ
-putIn room at text = pick (leb (at + length text) (length room)) (placed room at text) room
+putIn room at text = pick (leb (at + length text) (length room)) (pasted room at text) room

@@ -4,7 +4,7 @@ use mathlib.Core.List.{List, [], _∷_, _++_}
 use mathlib.Core.Bool.{Bool}
 use lib.ListN.{length}
 use lib.Dec.{leb, eqb}
-use Rattle.machine.specs.Lists.{pick, placed}
+use Rattle.machine.specs.Lists.{pick, pasted}
 use Rattle.machine.specs.Digits.{decimal}
 use Rattle.format.specs.declared.Answer.{Answer}
 
@@ -14,7 +14,7 @@ lineOf key text = key ++ (text ++ (10 ∷ []))
 
 -- A TEXT ON A PAGE: after what it is filled with; where it has no room it is left out whole
 unfoldable pub withText : List ℕ × ℕ → List ℕ → List ℕ × ℕ
-withText (page, at) line = pick (leb (at + length line) (length page)) (placed page at line, at + length line) (page, at)
+withText (page, at) line = pick (leb (at + length line) (length page)) (pasted page at line, at + length line) (page, at)
 
 -- without the zeros in front, of which so many may be left out
 unfoldable pub withoutZeros : ℕ → List ℕ → List ℕ

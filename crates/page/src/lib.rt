@@ -5,7 +5,7 @@ ghost use mathlib.Core.List.{_++_};
 ghost use Prim.Native.Nat.{_+_, _-_, _≤_};
 ghost use lib.ListN.{length, drop};
 ghost use lib.Dec.{leb};
-ghost use Rattle.machine.specs.Lists.{placed};
+ghost use Rattle.machine.specs.Lists.{pasted};
 ghost use Rattle.format.specs.Answers.{refusal};
 ghost use Rattle.page.specs.Lines.{lineOf, withText, withoutZeros, numberText, withAnswer, withInput};
 use field::bytes::part;
@@ -42,7 +42,7 @@ fn has_room(size: usize, at: usize, key: usize, text: usize) -> bool
 fn put_both(page: &mut [u8], at: usize, key: &[u8], text: &[u8]) -> usize
     requires { ⌜ at + (length (now key) + length (now text)) ≤ length (now page) ⌝ }
     ensures filled { λ r. ⌜ r ≡ at + (length (now (key .entry)) + length (now (text .entry))) ⌝ }
-    ensures bytes { λ _. ⌜ now (page .exit) ≡ placed (now (page .entry)) at (now (key .entry) ++ now (text .entry)) ⌝ }
+    ensures bytes { λ _. ⌜ now (page .exit) ≡ pasted (now (page .entry)) at (now (key .entry) ++ now (text .entry)) ⌝ }
 {
     put(key, at, page);
     let a = at + key.len();

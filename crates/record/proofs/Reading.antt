@@ -7,7 +7,7 @@ use native.Mathlib.Omega.{arith}
 use borrow.Author.Tests.{eq-eqb, eqb-true, leb-true}
 use lib.ListN.{length, take, drop, length-take}
 use lib.Dec.{leb, eqb}
-use Rattle.machine.specs.Lists.{pick, same, placed, putIn}
+use Rattle.machine.specs.Lists.{pick, same, pasted, putIn}
 use Rattle.machine.proofs.Base.{and-first, and-second, true≢false}
 use Rattle.format.specs.Fields.{Field, numeric, filled, optional, free, filler, width, wellFormed, readField}
 use Rattle.format.specs.Records.{layout}
@@ -64,13 +64,14 @@ record-via line e h = rw e h
 pub part-via : {k m : Kind} {x : Part} → k ≡ m → x ≡ textPart m → x ≡ textPart k
 part-via e h = rw e h
 
-text-placed : (k : Kind) (line : List ℕ) → padded (take (textPart k .width) (drop (textPart k .at) line)) ≡ textFor k (valuesOf k line)
-unfolding padded putIn placed pick
-text-placed k line = every (λ k. padded (take (textPart k .width) (drop (textPart k .at) line)) ≡ textFor k (valuesOf k line)) refl refl refl refl refl refl refl refl refl refl refl refl refl refl k
+-- WHAT STANDS AT A RECORD'S TEXT PART IS ITS TEXT, of every line
+pub text-stands : (k : Kind) (line : List ℕ) → padded (take (textPart k .width) (drop (textPart k .at) line)) ≡ textFor k (valuesOf k line)
+unfolding padded putIn pasted pick
+text-stands k line = every (λ k. padded (take (textPart k .width) (drop (textPart k .at) line)) ≡ textFor k (valuesOf k line)) refl refl refl refl refl refl refl refl refl refl refl refl refl refl k
 
 pub text-put : {q : Part} {p o : List ℕ} (k : Kind) (line : List ℕ) → q ≡ textPart k → p ≡ take (q .width) (drop (q .at) line) → o ≡ putIn noText 0 p → o ≡ textFor k (valuesOf k line)
 unfolding padded
-text-put k line q e h = h ∙ ap (putIn noText 0) (e ∙ ap (λ (r : Part). take (r .width) (drop (r .at) line)) q) ∙ text-placed k line
+text-put k line q e h = h ∙ ap (putIn noText 0) (e ∙ ap (λ (r : Part). take (r .width) (drop (r .at) line)) q) ∙ text-stands k line
 
 -- ## For users: the values of an accepted line are its fields
 

@@ -76,6 +76,7 @@ padded t = putIn noText 0 t
 abbrev pub partOf : ℕ → ℕ → Part
 partOf at width = record { at = at; width = width }
 
+-- (that these are the texts of `layout` is proved: `text-stands`)
 abbrev pub textPart : Kind → Part
 textPart FileHeader = partOf 19 5
 textPart BatchHeaderB = partOf 0 0

@@ -9,7 +9,7 @@ use borrow.Author.Tests.{eq-eqb, eqb-true}
 use lib.ListN.{length, take, drop, take-append-drop}
 use lib.Seq.{take-at}
 use lib.Dec.{T, eqb}
-use Rattle.machine.specs.Lists.{pick, placed}
+use Rattle.machine.specs.Lists.{pick, pasted}
 use Rattle.machine.proofs.Base.{true≢false}
 use Rattle.format.specs.Answers.{refusal, acceptance}
 use Rattle.format.specs.declared.Answer.{Answer}
@@ -22,7 +22,7 @@ use Rattle.format.specs.declared.Code.the-variants.{Of}
 use Rattle.format.specs.declared.TypeRead.{TypeRead}
 use Rattle.format.specs.declared.TypeRead.the-variants as types
 use Rattle.format.proofs.Cutting.{Lined, no-line, one-line, lined, lines-whole}
-use Rattle.field.proofs.Putting.{placed-front}
+use Rattle.field.proofs.Putting.{pasted-front}
 use Rattle.record.specs.Faults.{fieldsOf, faultOf}
 use Rattle.record.specs.Read.{itemOf, recordFor}
 use Rattle.record.specs.declared.Before.{Before}
@@ -236,10 +236,10 @@ module _ {a : Answer} (file o : List ℕ) (w : Rewritten) (e : a ≡ checkOf fil
   unfolding Promised
   promise-none z h = λ q. absurd (z (ap (λ (y : Answer). y .number) (sym h) ∙ q))
 
-  pub promise-met : (out : List ℕ) → a .number ≡ 0 → w .written ≡ length (withoutCities file) → o ≡ placed out 0 (withoutCities file) → Promised file w o
+  pub promise-met : (out : List ℕ) → a .number ≡ 0 → w .written ≡ length (withoutCities file) → o ≡ pasted out 0 (withoutCities file) → Promised file w o
   unfolding Promised
   promise-met out z n h = λ q.
-      let b : take (w .written) o ≡ withoutCities file = ap₂ take n (h ∙ placed-front out (withoutCities file)) ∙ take-at (withoutCities file) (drop (length (withoutCities file)) out) (length (withoutCities file)) refl in
+      let b : take (w .written) o ≡ withoutCities file = ap₂ take n (h ∙ pasted-front out (withoutCities file)) ∙ take-at (withoutCities file) (drop (length (withoutCities file)) out) (length (withoutCities file)) refl in
       subst (Again file) (sym b) (all-again file (ap (λ (y : Answer). y .number) (sym e) ∙ z))
 
 pub promise-small : {line : ℕ} (file o : List ℕ) (w : Rewritten) → w .answer ≡ refusal 12 line 0 → Promised file w o

@@ -7,12 +7,12 @@ use native.Mathlib.Omega.{arith}
 use borrow.Author.Needs.{needs}
 use borrow.Author.Tests.{eq-eqb, ne-eqb, le-leb, lt-leb}
 use lib.ListN.{length, take, drop, length-append}
-use Rattle.machine.specs.Lists.{pick, placed, putIn}
+use Rattle.machine.specs.Lists.{pick, pasted, putIn}
 use Rattle.format.specs.Answers.{refusal}
 use Rattle.format.specs.Cutting.{nextLine, linesIn}
 use Rattle.format.specs.declared.Answer.{Answer}
 use Rattle.format.proofs.Cutting.{line-inside, lines-at, lines-none}
-use Rattle.field.proofs.Putting.{put-fits, put-fitting, put-long, length-placed, placed-both}
+use Rattle.field.proofs.Putting.{put-fits, put-fitting, put-long, length-pasted, pasted-both}
 use Rattle.record.specs.Kinds.{isCity}
 use Rattle.reading.specs.Check.{checkOf}
 use Rattle.rewriting.specs.Cities.{keptLine, keptOf, withoutCities}
@@ -83,12 +83,12 @@ pub ruleset counts = (count-none, count-more, count-fits, count-all, needs)
 pub record Copying (file o out : List ℕ) (at i : ℕ) : Type 0 where
   pub done : List ℕ
   pub long : length done ≡ at
-  pub is : out ≡ placed o 0 done
+  pub is : out ≡ pasted o 0 done
   pub left : done ++ keptOf (linesIn (drop i file)) ≡ withoutCities file
   pub room : length (withoutCities file) ≤ length o
 
 pub copy-none : (file o : List ℕ) → length (withoutCities file) ≤ length o → Copying file o o 0 0
-unfolding withoutCities placed
+unfolding withoutCities pasted
 copy-none file o h = record { done = []; long = refl; is = refl; left = refl; room = h }
 
 module _ {file o out : List ℕ} {at i : ℕ} (c : Copying file o out at i) where
@@ -96,10 +96,10 @@ module _ {file o out : List ℕ} {at i : ℕ} (c : Copying file o out at i) wher
   done-in = omega (arith, c .long, c .room, sym (length-append (c .done) (keptOf (linesIn (drop i file)))) ∙ ap length (c .left))
 
   pub copy-kept : length out ≡ length o
-  copy-kept = ap length (c .is) ∙ length-placed o 0 (c .done) (omega (arith, c .long, done-in))
+  copy-kept = ap length (c .is) ∙ length-pasted o 0 (c .done) (omega (arith, c .long, done-in))
 
-  pub copy-all : length file ≤ i → out ≡ placed o 0 (withoutCities file)
-  copy-all h = c .is ∙ ap (placed o 0) (sym (append-nil (c .done)) ∙ ap (λ r. c .done ++ r) (sym (kept-none file i h)) ∙ c .left)
+  pub copy-all : length file ≤ i → out ≡ pasted o 0 (withoutCities file)
+  copy-all h = c .is ∙ ap (pasted o 0) (sym (append-nil (c .done)) ∙ ap (λ r. c .done ++ r) (sym (kept-none file i h)) ∙ c .left)
 
   module _ {p line : List ℕ} (h : i < length file) (e : p ≡ nextLine (drop i file)) (d : line ≡ keptLine p) where
     pub copy-sum : at + length line ≤ length o
@@ -113,8 +113,8 @@ module _ {file o out : List ℕ} {at i : ℕ} (c : Copying file o out at i) wher
           long = length-append (c .done) line ∙ ap (λ n. n + length line) (c .long);
           is =
               put-fits out at line (omega (arith, copy-sum, copy-kept)) q
-              ∙ ap₂ (λ x n. placed x n line) (c .is) (sym z)
-              ∙ placed-both o 0 (c .done) line (omega (arith, c .long, done-in));
+              ∙ ap₂ (λ x n. pasted x n line) (c .is) (sym z)
+              ∙ pasted-both o 0 (c .done) line (omega (arith, c .long, done-in));
           left = append-assoc (c .done) line (keptOf (linesIn (drop (i + length p) file))) ∙ ap (λ x. c .done ++ x) (sym (kept-at file h e d)) ∙ c .left;
           room = c .room;
         }
@@ -149,7 +149,7 @@ module _ {a : Answer} {o : List ℕ} (file out : List ℕ) (e : a ≡ checkOf fi
   pub room-small : {n : ℕ} → a .number ≡ 0 → n ≡ length (withoutCities file) → length out < n → o ≡ out → o ≡ roomAfter file out
   room-small z f l h = accepted-room z (h ∙ put-long out 0 (withoutCities file) (omega arith) (omega (arith, f)))
 
-  pub room-filled : {n : ℕ} → a .number ≡ 0 → n ≡ length (withoutCities file) → n ≤ length out → o ≡ placed out 0 (withoutCities file) → o ≡ roomAfter file out
+  pub room-filled : {n : ℕ} → a .number ≡ 0 → n ≡ length (withoutCities file) → n ≤ length out → o ≡ pasted out 0 (withoutCities file) → o ≡ roomAfter file out
   room-filled z f l h = accepted-room z (put-fitting out 0 (withoutCities file) (omega arith) (omega (arith, f)) h)
 
 pub copy-asked : {n room : ℕ} (file : List ℕ) → n ≡ length (withoutCities file) → n ≤ room → length (withoutCities file) ≤ room

@@ -5,7 +5,7 @@
 ghost use mathlib.Core.Path.{_≡_};
 ghost use Prim.Native.Nat.{_≤_};
 ghost use lib.ListN.{length};
-ghost use Rattle.machine.specs.Lists.{placed};
+ghost use Rattle.machine.specs.Lists.{pasted};
 ghost use Rattle.rewriting.specs.Cities.{keptLine, withoutCities};
 ghost use Rattle.rewriting.specs.Promises.{Promised};
 ghost use Rattle.rewriting.specs.Rewriting.{rewrittenOf, roomAfter};
@@ -49,7 +49,7 @@ fn size(file: &[u8]) -> usize
 // The lines that are no city's, one after the other.
 fn copy(file: &[u8], out: &mut [u8])
     requires { ⌜ length (withoutCities (now file)) ≤ length (now out) ⌝ }
-    ensures { λ _. ⌜ now (out .exit) ≡ placed (now (out .entry)) 0 (withoutCities (now (file .entry))) ⌝ }
+    ensures { λ _. ⌜ now (out .exit) ≡ pasted (now (out .entry)) 0 (withoutCities (now (file .entry))) ⌝ }
 {
     let mut at: usize = 0;
     let mut i: usize = 0;

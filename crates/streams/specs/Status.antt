@@ -6,7 +6,7 @@ use Rattle.machine.specs.Lists.{pick}
 
 -- of one file, by its answer and whether all was read and written
 unfoldable pub statusOf : ℕ → Bool → ℕ
-statusOf answer done = pick done (pick (eqb answer 0) 0 1) 2
+statusOf number done = pick done (pick (eqb number 0) 0 1) 2
 
 -- as one digit
 unfoldable pub statusDigit : ℕ → ℕ

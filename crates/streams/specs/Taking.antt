@@ -32,5 +32,5 @@ passedOne l buffer = record { at = l .at + length (nextLine (leftIn l buffer)); 
 abbrev pub fromStart : ℤ → Source
 fromStart fd = record { fd = fd; start = pos 0; temporary = true }
 
-abbrev pub fromPlace : ℤ → ℤ → Source
-fromPlace fd start = record { fd = fd; start = start; temporary = false }
+abbrev pub fromOffset : ℤ → ℤ → Source
+fromOffset fd start = record { fd = fd; start = start; temporary = false }

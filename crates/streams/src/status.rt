@@ -6,12 +6,12 @@ ghost use Rattle.streams.specs.Status.{statusOf, statusDigit};
 
 const STATUS_FILENO: i32 = 3;
 
-// Of one file: its answer, and whether all was read and written.
-pub fn status_of(answer: u8, done: bool) -> u8
-    ensures { λ r. ⌜ r ≡ statusOf answer done ⌝ }
+// Of one file: the number of its answer, and whether all was read and written.
+pub fn status_of(number: u8, done: bool) -> u8
+    ensures { λ r. ⌜ r ≡ statusOf number done ⌝ }
 {
     if done {
-        if answer == 0 {
+        if number == 0 {
             return 0;
         }
         return 1;

@@ -2,7 +2,7 @@
 // is gone before it is filled.
 ghost use mathlib.Core.Path.{_≡_};
 ghost use Rattle.machine.specs.Lists.{pick};
-ghost use Rattle.streams.specs.Taking.{unreadIf, fromStart, fromPlace};
+ghost use Rattle.streams.specs.Taking.{unreadIf, fromStart, fromOffset};
 use crate::Lines;
 use crate::fill;
 use field::bytes::part;
@@ -77,7 +77,7 @@ fn spooled(fd: i32, name: &[u8]) -> i32 {
 
 // An input that can be read twice: itself, or a temporary file of the same bytes.
 pub fn rereadable(fd: i32, name: &[u8]) -> Source
-    ensures { λ r. ⌜ r ≡ pick (r .temporary) (fromStart (r .fd)) (fromPlace fd (r .start)) ⌝ }
+    ensures { λ r. ⌜ r ≡ pick (r .temporary) (fromStart (r .fd)) (fromOffset fd (r .start)) ⌝ }
 {
     let start = libc::lseek(fd, 0, SEEK_CUR);
     if start < 0 {

@@ -28,9 +28,9 @@ words =
 
 -- the words of an answer by a table, and none where it is not in it
 abbrev pub wordsBy : List (ℕ × String) → ℕ → List ℕ
-wordsBy [] answer = []
-wordsBy (row ∷ rows) answer = pick (eqb answer (row .0)) (characters (row .1)) (wordsBy rows answer)
+wordsBy [] number = []
+wordsBy (row ∷ rows) number = pick (eqb number (row .0)) (characters (row .1)) (wordsBy rows number)
 
 -- THE WORDS of an answer
 unfoldable pub wordsOf : ℕ → List ℕ
-wordsOf answer = wordsBy words answer
+wordsOf number = wordsBy words number

@@ -9,7 +9,7 @@ use lib.ListN.{length, take, drop, length-append, length-replicate, drop-of-leng
 use lib.Seq.{take-all, take-at, drop-at, drop-append-add, length-take-le}
 use borrow.Author.Tests.{ne-eqb}
 use lib.Dec.{T, leb, ltb, leb→le}
-use Rattle.machine.specs.Lists.{pick, all, isDigit, isSpace, spaces, placed, putIn}
+use Rattle.machine.specs.Lists.{pick, all, isDigit, isSpace, spaces, pasted, putIn}
 use Rattle.machine.specs.Digits.{pow10, decimal}
 use Rattle.machine.proofs.Base.{and-l}
 use Rattle.machine.proofs.Digits.{length-decimal, decimal-digits, decimal-last}
@@ -126,7 +126,7 @@ record Built (l d : List ℕ) (a n : ℕ) : Type 0 where
 
 module _ {l d m : List ℕ} (w n a : ℕ) (b : Built l d a (w + n)) where
   field : (t : List ℕ) → length t ≡ w → m ≡ putIn l a t → Built m (d ++ t) (a + w) n
-  unfolding placed
+  unfolding pasted
   field t h e =
       let s : List ℕ = spaces (w + n) ++ lineEnd in
       let f : a + length t ≤ length (d ++ s) = simp (length-append, length-replicate) (omega (arith, b .long)) in

@@ -20,7 +20,7 @@ use Rattle.writer.specs.Writing.{answered, writtenBy, roomBy, writtenOf,
 use Rattle.writer.specs.Promises.{recordOf, entryOf, ReadsBack, WritesAgain}
 use Rattle.writer.specs.declared.Entry.{Entry}
 use Rattle.writer.specs.declared.Written.{Written}
-use Rattle.writer.proofs.Placing.{answer-via, room-via}
+use Rattle.writer.proofs.Pasting.{answer-via, room-via}
 use Rattle.reading.proofs.Slices.{step-own}
 use Rattle.writer.proofs.Accepting.{accepts, step-on}
 use Rattle.writer.proofs.Back.{line-52, read-back}

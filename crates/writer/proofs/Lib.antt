@@ -1,6 +1,6 @@
 pub mod Putting
 pub mod Building
-pub mod Placing
+pub mod Pasting
 pub mod Accepting
 pub mod Back
 pub mod Again

@@ -30,7 +30,7 @@ use Rattle.writer.specs.Writing.{answered, writtenBy, writtenOf}
 use Rattle.writer.specs.Promises.{isUnfit, unfitFrom, unfitColumn, RefusedBy, RefusesUnfit}
 use Rattle.writer.specs.declared.Entry.{Entry}
 use Rattle.writer.specs.declared.Written.{Written}
-use Rattle.writer.proofs.Placing.{answer-via}
+use Rattle.writer.proofs.Pasting.{answer-via}
 use Rattle.reading.proofs.Answers.{step-judged}
 use Rattle.record.proofs.Coding.{code-found}
 use Rattle.writer.proofs.Back.{Sized, AllSized, field-long, field-back, sized, line-52, front-code, front-body}

@@ -1,5 +1,5 @@
--- What has_room ensures, by the laws of Placing.
-use Rattle.page.proofs.Placing.{rooms}
+-- What has_room ensures, by the laws of Pasting.
+use Rattle.page.proofs.Pasting.{rooms}
 use Rattle.page.proofs.has_room.Statement.{statement}
 use Rattle.page.proofs.has_room.Tie as tie
 

@@ -1,6 +1,6 @@
--- What put_line ensures, by the laws of Placing.
+-- What put_line ensures, by the laws of Pasting.
 use borrow.Author.Needs.{needs}
-use Rattle.page.proofs.Placing.{line-left, both-fit, end-fits, line-put}
+use Rattle.page.proofs.Pasting.{line-left, both-fit, end-fits, line-put}
 use Rattle.page.proofs.put_line.Statement.{statement}
 use Rattle.page.proofs.put_line.Tie as tie
 

@@ -1,6 +1,6 @@
--- What put_text ensures, by the laws of Placing.
+-- What put_text ensures, by the laws of Pasting.
 use borrow.Author.Needs.{needs}
-use Rattle.page.proofs.Placing.{texts}
+use Rattle.page.proofs.Pasting.{texts}
 use Rattle.page.proofs.put_text.Statement.{statement}
 use Rattle.page.proofs.put_text.Tie as tie
 

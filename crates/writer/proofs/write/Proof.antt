@@ -1,6 +1,6 @@
--- What write ensures, by the laws of Placing, Refusing and Keeping.
+-- What write ensures, by the laws of Pasting, Refusing and Keeping.
 use borrow.Author.Needs.{needs}
-use Rattle.writer.proofs.Placing.{answer-via, room-via}
+use Rattle.writer.proofs.Pasting.{answer-via, room-via}
 use Rattle.writer.proofs.Refusing.{unfit-via}
 use Rattle.writer.proofs.Keeping.{reads-back-via, writes-again-via}
 use Rattle.writer.proofs.write.Statement.{statement}

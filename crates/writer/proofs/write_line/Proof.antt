@@ -1,6 +1,6 @@
--- What write_line ensures, by the laws of Placing.
+-- What write_line ensures, by the laws of Pasting.
 use borrow.Author.Needs.{needs}
-use Rattle.writer.proofs.Placing.{rooms}
+use Rattle.writer.proofs.Pasting.{rooms}
 use Rattle.writer.proofs.write_line.Statement.{statement}
 use Rattle.writer.proofs.write_line.Tie as tie
 

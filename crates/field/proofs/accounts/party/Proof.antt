@@ -3,7 +3,7 @@ use borrow.Author.Needs.{needs}
 use borrow.Author.Tests.{eq-eqb, ne-eqb}
 use Rattle.field.proofs.Elevens.{owns, ten-digits}
 use Rattle.field.proofs.Numerics.{of-stop, of-on, is-right}
-use Rattle.field.proofs.Picks.{pick-yes, pick-no, told}
+use Rattle.field.proofs.Picks.{pick-yes, pick-no, by-call}
 use Rattle.field.proofs.accounts.party.Statement.{statement}
 use Rattle.field.proofs.accounts.party.Tie as tie
 
@@ -17,8 +17,8 @@ party-spec =
     (λ c κs. search ten-digits)  -- is-account-requires
     (λ c κs. search needs)  -- wrong-requires
     (λ c κs. search needs)  -- wrong-requires-2
-    (λ c. search (of-on, pick-yes, told, owns, eq-eqb, is-right) depth 5)  -- returns-2
-    (λ c. search (of-on, pick-yes, pick-no, told, owns, ne-eqb) depth 5)  -- returns-3
-    (λ c. search (of-on, pick-yes, told, owns, is-right) depth 5)  -- returns-4
-    (λ c. search (of-on, pick-no, told) depth 5)  -- returns-5
+    (λ c. search (of-on, pick-yes, by-call, owns, eq-eqb, is-right) depth 5)  -- returns-2
+    (λ c. search (of-on, pick-yes, pick-no, by-call, owns, ne-eqb) depth 5)  -- returns-3
+    (λ c. search (of-on, pick-yes, by-call, owns, is-right) depth 5)  -- returns-4
+    (λ c. search (of-on, pick-no, by-call) depth 5)  -- returns-5
     )

@@ -1,7 +1,7 @@
 -- What texts::filler_answer ensures, by the laws of Forms and Picks.
 use borrow.Author.Needs.{needs}
 use Rattle.field.proofs.Forms.{form-yes, form-no}
-use Rattle.field.proofs.Picks.{told}
+use Rattle.field.proofs.Picks.{by-call}
 use Rattle.field.proofs.texts.filler_answer.Statement.{statement}
 use Rattle.field.proofs.texts.filler_answer.Tie as tie
 
@@ -11,6 +11,6 @@ filler-answer-spec =
     (tie.spec
     (λ c κs. search needs)  -- part-requires
     (λ c κs. search needs)  -- is-blank-requires
-    (λ c. search (form-yes, told) depth 2)  -- returns
-    (λ c. search (form-no, told) depth 2)  -- returns-2
+    (λ c. search (form-yes, by-call) depth 2)  -- returns
+    (λ c. search (form-no, by-call) depth 2)  -- returns-2
     )

@@ -1,7 +1,7 @@
 -- What texts::optional_answer ensures, by the laws of Forms and Picks.
 use borrow.Author.Needs.{needs}
 use Rattle.field.proofs.Forms.{form-yes, blank-prints, optional-filled}
-use Rattle.field.proofs.Picks.{told, both-are, first-holds}
+use Rattle.field.proofs.Picks.{by-call, both-are, first-holds}
 use Rattle.field.proofs.texts.optional_answer.Statement.{statement}
 use Rattle.field.proofs.texts.optional_answer.Tie as tie
 
@@ -11,7 +11,7 @@ optional-answer-spec =
     (tie.spec
     (λ c κs. search needs)  -- part-requires
     (λ c κs. search needs)  -- is-blank-requires
-    (λ c. search (form-yes, both-are, blank-prints, first-holds, told) depth 4)  -- returns
+    (λ c. search (form-yes, both-are, blank-prints, first-holds, by-call) depth 4)  -- returns
     (λ c κs. search needs)  -- filled-no-requires
-    (λ c. search (optional-filled, told) depth 2)  -- returns-2
+    (λ c. search (optional-filled, by-call) depth 2)  -- returns-2
     )

@@ -17,6 +17,7 @@ hand-out-spec =
     (λ c κs. search needs)  -- texts-requires
     (λ c. search needs)  -- slice-aggregate-put
     (λ c κs. search needs)  -- put-requires
+    (λ c κs. search needs)  -- accepted-requires
     (λ c. search needs)  -- same-length
     (λ c. (search rooms depth 20 fits 10000, search rooms depth 20 fits 10000))  -- returns-3
     (λ c κs. search needs)  -- refusal-requires-2

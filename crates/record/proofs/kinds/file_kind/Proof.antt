@@ -1,7 +1,7 @@
 -- What kinds::file_kind ensures, by the laws of field's Picks.
 use borrow.Author.Needs.{needs}
 use Rattle.record.specs.Kinds.{fileCode}
-use Rattle.field.proofs.Picks.{pick-yes, pick-no, told}
+use Rattle.field.proofs.Picks.{pick-yes, pick-no, by-call}
 use Rattle.record.proofs.kinds.file_kind.Statement.{statement}
 use Rattle.record.proofs.kinds.file_kind.Tie as tie
 
@@ -12,9 +12,9 @@ file-kind-spec =
     (tie.spec
     (λ c. search needs)  -- slice-aggregate-is-same
     (λ c κs. search needs)  -- is-same-requires
-    (λ c. search (pick-yes, pick-no, told) depth 20 fits 10000)  -- returns
+    (λ c. search (pick-yes, pick-no, by-call) depth 20 fits 10000)  -- returns
     (λ c. search needs)  -- slice-aggregate-is-same-2
     (λ c κs. search needs)  -- is-same-requires-2
-    (λ c. search (pick-yes, pick-no, told) depth 20 fits 10000)  -- returns-2
-    (λ c. search (pick-yes, pick-no, told) depth 20 fits 10000)  -- returns-3
+    (λ c. search (pick-yes, pick-no, by-call) depth 20 fits 10000)  -- returns-2
+    (λ c. search (pick-yes, pick-no, by-call) depth 20 fits 10000)  -- returns-3
     )

@@ -10,7 +10,7 @@ use lib.ListN.{length, length-append}
 use lib.Dec.{leb, ltb}
 use mir.Val.{Fits}
 use mir.Syntax.{w64}
-use Rattle.machine.specs.Lists.{pick, placed, putIn}
+use Rattle.machine.specs.Lists.{pick, pasted, putIn}
 use Rattle.field.proofs.Putting.{put-next}
 use Rattle.page.specs.Lines.{lineOf, withText}
 
@@ -69,14 +69,14 @@ module _ {r : Bool} (page : List ℕ) (at : ℕ) (key text : List ℕ) (e : r �
   end-fits h f g = let k = room h in omega arith
 
   -- (under `Unit` a `search` does not look for p in the last premise, in which it would end at a limit)
-  pub line-put : {p l : List ℕ} {a : ℕ} → r ≡ true → a ≡ at + (length key + length text) → p ≡ placed page at (key ++ text) → (Unit {0} → l ≡ putIn p a (10 ∷ [])) → (l, a + 1) ≡ withText (page, at) (lineOf key text)
+  pub line-put : {p l : List ℕ} {a : ℕ} → r ≡ true → a ≡ at + (length key + length text) → p ≡ pasted page at (key ++ text) → (Unit {0} → l ≡ putIn p a (10 ∷ [])) → (l, a + 1) ≡ withText (page, at) (lineOf key text)
   unfolding withText pick
   line-put {p} {l} {a} h f d x =
       let k = room h in
       let s = size in
       let n = length-append key text in
       let z : a ≡ at + length (key ++ text) = omega arith in
-      let g : l ≡ placed page at (lineOf key text)
-      = put-next page at (key ++ text) (10 ∷ []) (omega arith) d (x tt ∙ ap (λ m. putIn p m (10 ∷ [])) z) ∙ ap (placed page at) (append-assoc key text (10 ∷ [])) in
+      let g : l ≡ pasted page at (lineOf key text)
+      = put-next page at (key ++ text) (10 ∷ []) (omega arith) d (x tt ∙ ap (λ m. putIn p m (10 ∷ [])) z) ∙ ap (pasted page at) (append-assoc key text (10 ∷ [])) in
       let w : a + 1 ≡ at + length (lineOf key text) = omega arith in
       ap₂ (λ u v. (u, v)) g w ∙ rw (s, ← e, h) refl
