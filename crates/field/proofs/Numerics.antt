@@ -7,10 +7,10 @@ use native.Mathlib.Omega.{arith}
 use native.Mathlib.Nat.{pow-le-pow-right}
 use native.Mathlib.Numerals.{add-one}
 use borrow.Author.Needs.{needs}
-use borrow.Author.Tests.{le-leb, lt-leb, leb-true, leb-false, lt-ltb, le-ltb, eq-eqb, ne-eqb}
+use borrow.Author.Tests.{le-leb, lt-leb, leb-true, eq-eqb, ne-eqb}
 use lib.ListN.{length, getD, drop, drop-of-length-le}
 use lib.Seq.{drop-cons}
-use lib.Dec.{T, lit<, eqb, leb, ltb}
+use lib.Dec.{T, lit<, eqb, leb}
 use mir.Val.{Fits}
 use mir.Syntax.{w64}
 use Rattle.machine.specs.Lists.{pick, all, isDigit}
@@ -20,7 +20,7 @@ use Rattle.format.specs.Tests.{Test, test, rangeTests}
 use Rattle.field.specs.declared.numbers.Digits.{Digits}
 use Rattle.field.specs.declared.numbers.Numeric.{Numeric}
 use Rattle.field.specs.Rows.{firstAnswer, fieldAnswer}
-use Rattle.field.specs.Leaf.{noDigits, digitsOf, wrongAs, rightOf, numericBy, numericAnswer, numericOf, rangedBy}
+use Rattle.field.specs.Leaf.{noDigits, digitsOf, wrongAs, rightOf, numericBy, numericAnswer, numericOf, testedBy}
 use Rattle.field.proofs.Picks.{picks, by-call}
 
 -- ## The next of the digits that are left
@@ -162,18 +162,35 @@ module _ {d : Digits} (tests : ℕ → List Test) (l : List ℕ) where
 pub ruleset vias = (no-via, of-via, picks)
 
 -- digits in a range
-range-numbered : (low high v : ℕ) → Numbered (rangeTests low high v)
-range-numbered low high v = (tt, tt)
+module _ {x : Numeric} (low high : ℕ) (d : Digits) where
+  pub range-not : d .ok ≡ false → x ≡ wrongAs 4 → x ≡ testedBy (rangeTests low high) d
+  unfolding testedBy pick
+  range-not e h = h ∙ rw e
 
-by-range : (low high v : ℕ) (q u : Bool) → leb low v ≡ q → leb v high ≡ u → pick (ltb v low) (wrongAs 5) (pick (ltb high v) (wrongAs 5) (rightOf v)) ≡ pick (q && u) (rightOf v) (wrongAs 5)
-unfolding pick
-by-range low high v true true h k = rw (le-ltb v low (leb-true low v h), le-ltb high v (leb-true v high k))
-by-range low high v true false h k = rw (le-ltb v low (leb-true low v h), lt-ltb high v (leb-false v high k))
-by-range low high v false u h k = rw (lt-ltb v low (leb-false low v h))
+  module _ (e : d .ok ≡ true) where
+    pub range-low : d .value < low → x ≡ wrongAs 5 → x ≡ testedBy (rangeTests low high) d
+    unfolding testedBy pick
+    range-low l h = h ∙ rw (e, lt-leb low (d .value) l)
 
-pub range-of : {d : Digits} {x : Numeric} (low high : ℕ) (l : List ℕ) → d ≡ digitsOf l → x ≡ rangedBy low high d → x ≡ numericOf (rangeTests low high) l
-unfolding rangedBy
-range-of {d} low high l e h = of-via (rangeTests low high) l (range-numbered low high) e (h ∙ ap (λ n. pick (d .ok) n (wrongAs 4)) (by-range low high (d .value) (leb low (d .value)) (leb (d .value) high) refl refl))
+    pub range-high : low ≤ d .value → high < d .value → x ≡ wrongAs 5 → x ≡ testedBy (rangeTests low high) d
+    unfolding testedBy pick
+    range-high l u h = h ∙ rw (e, le-leb low (d .value) l, lt-leb (d .value) high u)
+
+    pub range-in : low ≤ d .value → d .value ≤ high → x ≡ rightOf (d .value) → x ≡ testedBy (rangeTests low high) d
+    unfolding testedBy pick
+    range-in l u h = h ∙ rw (e, le-leb low (d .value) l, le-leb (d .value) high u)
+
+pub ruleset ranges = (range-not, range-low, range-high, range-in, needs)
+
+-- a field by its digits
+pub tested-of : {d : Digits} {x : Numeric} (tests : ℕ → List Test) (l : List ℕ) → d ≡ digitsOf l → x ≡ testedBy tests d → x ≡ numericOf tests l
+unfolding testedBy digitsOf numericOf numericAnswer fieldAnswer pick
+tested-of tests l e h = h ∙ ap (testedBy tests) e ∙ by (leb (length l) 18) (all isDigit l)
+  where
+    by : (q u : Bool) → testedBy tests (pick (q && u) (record { ok = true; value = valueOf l }) noDigits) ≡ numericBy (pick q (pick u (firstAnswer (tests (valueOf l))) 4) 4) (valueOf l)
+    by true true = refl
+    by true false = refl
+    by false u = refl
 
 -- where nothing is wrong there are digits
 pub is-digits : (tests : ℕ → List Test) (l : List ℕ) → numericAnswer tests l ≡ 0 → all isDigit l ≡ true

@@ -4,13 +4,13 @@ use mathlib.Core.Path.{_≡_}
 use mathlib.Core.List.{List, [], _∷_}
 use mathlib.Core.Bool.{true, false, _&&_}
 use lib.ListN.{length}
-use lib.Dec.{leb, ltb, eqb}
+use lib.Dec.{leb, eqb}
 use Rattle.machine.specs.Lists.{pick, all, isDigit}
 use Rattle.machine.specs.Digits.{valueOf}
 use Rattle.format.specs.Fields.{numeric}
-use Rattle.format.specs.Answers.{wrongForm, wrongValue}
+use Rattle.format.specs.Answers.{wrongForm}
 use Rattle.format.specs.Tests.{Test}
-use Rattle.field.specs.Rows.{fieldAnswer}
+use Rattle.field.specs.Rows.{firstAnswer, fieldAnswer}
 use Rattle.field.specs.declared.numbers.Digits.{Digits}
 use Rattle.field.specs.declared.numbers.Numeric.{Numeric}
 
@@ -30,14 +30,9 @@ rightOf v = record { number = 0; value = v }
 abbrev pub numericBy : ℕ → ℕ → Numeric
 numericBy n v = record { number = n; value = pick (eqb n 0) v 0 }
 
--- digits that stand for a number from low to high
-unfoldable pub rangedBy : ℕ → ℕ → Digits → Numeric
-rangedBy low high d =
-    pick (d .ok)
-    (pick (ltb (d .value) low) (wrongAs wrongValue)
-    (pick (ltb high (d .value)) (wrongAs wrongValue)
-    (rightOf (d .value))))
-    (wrongAs wrongForm)
+-- digits that stand for a number, by tests of it
+unfoldable pub testedBy : (ℕ → List Test) → Digits → Numeric
+testedBy tests d = pick (d .ok) (numericBy (firstAnswer (tests (d .value))) (d .value)) (wrongAs wrongForm)
 
 -- the field's form, then tests of its value
 unfoldable pub numericAnswer : (ℕ → List Test) → List ℕ → ℕ

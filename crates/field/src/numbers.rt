@@ -6,7 +6,7 @@ ghost use lib.ListN.{length, take, drop};
 ghost use Rattle.machine.specs.Lists.{all, isDigit};
 ghost use Rattle.machine.specs.Digits.{decimal, valueOf};
 ghost use Rattle.format.specs.Tests.{rangeTests, totalTests, equalTests};
-ghost use Rattle.field.specs.Leaf.{digitsOf, wrongAs, rightOf, numericAnswer, numericOf, rangedBy};
+ghost use Rattle.field.specs.Leaf.{digitsOf, wrongAs, rightOf, numericAnswer, numericOf, testedBy};
 use crate::bytes::is_digits;
 use crate::bytes::part;
 
@@ -107,7 +107,7 @@ pub(crate) fn right(value: u64) -> Numeric
 
 // Digits that stand for a number from low to high.
 pub fn in_range(d: Digits, low: u64, high: u64) -> Numeric
-    ensures { λ r. ⌜ r ≡ rangedBy low high d ⌝ }
+    ensures { λ r. ⌜ r ≡ testedBy (rangeTests low high) d ⌝ }
 {
     if d.ok {
         if d.value < low {

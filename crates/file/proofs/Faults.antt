@@ -2,30 +2,31 @@
 use Prim.Native.Nat.{ℕ, zero, suc, _+_, _-_, _≤_}
 use mathlib.Core.Path.{_≡_, refl, sym, ap, _∙_, subst}
 use mathlib.Core.List.{List, [], _∷_}
-use mathlib.Core.Bool.{Bool, true, false, _&&_}
-use mathlib.Core.Option.{Option, none, some}
+use mathlib.Core.Bool.{Bool, true, false, not}
 use native.Mathlib.Omega.{arith}
 use borrow.Author.Tests.{ne-eqb}
 use lib.ListN.{take, drop}
 use lib.Seq.{take-take, take-nil, drop-drop}
-use lib.Dec.{T, leb, leb→le, eqb→eq}
+use lib.Dec.{T, eqb, eqb→eq}
 use Rattle.machine.specs.Lists.{pick}
-use Rattle.machine.proofs.Base.{refuse, and-l, and-r}
+use Rattle.machine.proofs.Base.{refuse}
 use Rattle.format.specs.Fields.{Field, width, widths, wellFormed, readField, readFields}
-use Rattle.format.specs.Records.{layout, Fields, unidentified, sequence}
-use Rattle.format.specs.Tests.{Test, test, Check, check, Tests, batchHeaderTests}
+use Rattle.format.specs.Records.{layout, Fields}
+use Rattle.format.specs.Tests.{Test, test, Check, check, Tests}
 use Rattle.format.specs.declared.Kind.{Kind}
-use Rattle.format.specs.declared.Kind.the-variants.{FileHeader, BatchHeaderB, BatchHeaderC, FixedDescription, OrderingParty, Transaction, NamePayer, CityPayer, PaymentReference, Description, NameBeneficiary, CityBeneficiary, BatchTrailer, FileTrailer}
-use Rattle.format.specs.declared.Group.{Group}
-use Rattle.format.proofs.Checks.{judge, Pass, Holds, fieldChecks, lineChecks, field-passed}
-use Rattle.format.proofs.Reader.{State, begin}
+use Rattle.format.specs.declared.Kind.the-variants.{BatchTrailer}
+use Rattle.format.proofs.Checks.{judge, Pass, fieldChecks, lineChecks}
+use Rattle.format.proofs.Reader.{State}
+use Rattle.format.proofs.Every.{every}
 use Rattle.field.specs.Rows.{Row, row, partAt, firstAnswer, fieldAnswer, rowsAt, checkRows, fieldsAt, firstOr}
 use Rattle.record.specs.Read.{recordFor}
 use Rattle.record.specs.declared.Record.the-variants as the
 use Rattle.record.specs.declared.Fault.{Fault}
 use Rattle.record.specs.declared.Before.{Before}
 use Rattle.record.specs.declared.Batch.{Batch}
-use Rattle.record.specs.Faults.{faultAt, noFault, firstFault, fieldsOf, testsFor, maximaFor, faultOf, knownGroup}
+use Rattle.field.proofs.Numerics.{Numbered}
+use Rattle.record.proofs.Faultless.{AllNumbered, numbered, faultless}
+use Rattle.record.specs.Faults.{faultAt, noFault, firstFault, fieldsOf, testsFor, maximaFor, faultOf}
 
 -- ## Fields by their columns
 
@@ -49,55 +50,18 @@ fields-read c (f ∷ fs) xs h =
     let q = ap (readFields fs) (other-fields c (width f) (widths fs) xs h) ∙ fields-read (c + width f) fs xs (omega arith) in
     λ i. (readField f (e i), q i)
 
--- ## Every test has an answer
+-- ## Every check of the maxima has an answer
 
-abbrev answered : List Test → Bool
-answered [] = true
-answered (test b n ∷ ts) = leb 1 n && answered ts
+abbrev ChecksNumbered : List Check → Type 0
+ChecksNumbered [] = Unit {0}
+ChecksNumbered (check b n c ∷ cs) = T (not (eqb n 0)) × ChecksNumbered cs
 
-abbrev allAnswered : (fs : List Field) → Tests fs → Bool
-allAnswered [] t = true
-allAnswered (f ∷ fs) t = answered (t .0) && allAnswered fs (t .1)
+maxima-numbered : (b : Batch) (k : Kind) (x : Fields k) → ChecksNumbered (maximaFor b k x)
+maxima-numbered b = every (λ k. (x : Fields k) → ChecksNumbered (maximaFor b k x)) (λ x. tt) (λ x. tt) (λ x. tt) (λ x. tt) (λ x. tt) (λ x. (tt, (tt, tt))) (λ x. tt) (λ x. tt) (λ x. tt) (λ x. tt) (λ x. tt) (λ x. tt) (λ x. tt) (λ x. tt)
 
-abbrev checksAnswered : List Check → Bool
-checksAnswered [] = true
-checksAnswered (check b n c ∷ cs) = leb 1 n && checksAnswered cs
-
-header-answered : (o : Option Group) (before : ℕ) (x : Fields BatchHeaderB) → T (allAnswered (layout BatchHeaderB) (batchHeaderTests o before x))
-header-answered (some g) before x = tt
-header-answered none before x = tt
-
-tests-answered : (p : Before) (b : Batch) (k : Kind) (x : Fields k) → T (allAnswered (layout k) (testsFor p b k x))
-tests-answered p b FileHeader x = tt
-tests-answered p b BatchHeaderB x = header-answered (knownGroup p) (p .sequence) x
-tests-answered p b BatchHeaderC x = header-answered (knownGroup p) (p .sequence) (unidentified x)
-tests-answered p b FixedDescription x = tt
-tests-answered p b OrderingParty x = tt
-tests-answered p b Transaction x = tt
-tests-answered p b NamePayer x = tt
-tests-answered p b CityPayer x = tt
-tests-answered p b PaymentReference x = tt
-tests-answered p b Description x = tt
-tests-answered p b NameBeneficiary x = tt
-tests-answered p b CityBeneficiary x = tt
-tests-answered p b BatchTrailer x = tt
-tests-answered p b FileTrailer x = tt
-
-maxima-answered : (b : Batch) (k : Kind) (x : Fields k) → T (checksAnswered (maximaFor b k x))
-maxima-answered b FileHeader x = tt
-maxima-answered b BatchHeaderB x = tt
-maxima-answered b BatchHeaderC x = tt
-maxima-answered b FixedDescription x = tt
-maxima-answered b OrderingParty x = tt
-maxima-answered b Transaction x = tt
-maxima-answered b NamePayer x = tt
-maxima-answered b CityPayer x = tt
-maxima-answered b PaymentReference x = tt
-maxima-answered b Description x = tt
-maxima-answered b NameBeneficiary x = tt
-maxima-answered b CityBeneficiary x = tt
-maxima-answered b BatchTrailer x = tt
-maxima-answered b FileTrailer x = tt
+positive : (n : ℕ) → T (not (eqb n 0)) → 1 ≤ n
+positive zero t = absurd t
+positive (suc n) t = omega arith
 
 -- ## Rows and checks
 
@@ -111,65 +75,52 @@ module _ (after : State) where
   onward n c (passed p) = passed (tt, p)
   onward n c (stopped d m z e) = stopped d m z e
 
-  refuses : (cs : List Check) (rows : List Row) (n c : ℕ) → T (leb 1 n) → Same (check false n c ∷ cs) (firstOr faultAt (row c n ∷ rows) noFault)
+  refuses : (cs : List Check) (rows : List Row) (n c : ℕ) → T (not (eqb n 0)) → Same (check false n c ∷ cs) (firstOr faultAt (row c n ∷ rows) noFault)
   unfolding firstOr pick
   refuses cs rows n c t =
-      let h = leb→le 1 n t in
+      let h = positive n t in
       subst (λ b. Same (check false n c ∷ cs) (pick b (firstOr faultAt rows noFault) (faultAt c n))) (sym (ne-eqb n 0 (omega arith))) (stopped c n h refl)
 
-  same-tests : (c : ℕ) (ts : List Test) (cs : List Check) (rows : List Row) → T (answered ts) → Same cs (firstOr faultAt rows noFault) → Same (fieldChecks c ts cs) (firstOr faultAt (row c (firstAnswer ts) ∷ rows) noFault)
+  same-tests : (c : ℕ) (ts : List Test) (cs : List Check) (rows : List Row) → Numbered ts → Same cs (firstOr faultAt rows noFault) → Same (fieldChecks c ts cs) (firstOr faultAt (row c (firstAnswer ts) ∷ rows) noFault)
   unfolding firstOr pick
   same-tests c [] cs rows t j = j
-  same-tests c (test true n ∷ ts) cs rows t j = onward n c (same-tests c ts cs rows (and-r (leb 1 n) (answered ts) t) j)
-  same-tests c (test false n ∷ ts) cs rows t j = refuses (fieldChecks c ts cs) rows n c (and-l (leb 1 n) (answered ts) t)
+  same-tests c (test true n ∷ ts) cs rows t j = onward n c (same-tests c ts cs rows (t .1) j)
+  same-tests c (test false n ∷ ts) cs rows t j = refuses (fieldChecks c ts cs) rows n c (t .0)
 
-  same-field : (q : Bool) (c : ℕ) (ts : List Test) (cs : List Check) (rows : List Row) → T (answered ts) → Same cs (firstOr faultAt rows noFault)
+  same-field : (q : Bool) (c : ℕ) (ts : List Test) (cs : List Check) (rows : List Row) → Numbered ts → Same cs (firstOr faultAt rows noFault)
       → Same (check q 4 c ∷ fieldChecks c ts cs) (firstOr faultAt (row c (pick q (firstAnswer ts) 4) ∷ rows) noFault)
   unfolding pick
   same-field true c ts cs rows t j = onward 4 c (same-tests c ts cs rows t j)
   same-field false c ts cs rows t j = refuses (fieldChecks c ts cs) rows 4 c tt
 
-  same-fields : (c : ℕ) (fs : List Field) (t : Tests fs) (xs : List ℕ) (cs : List Check) (rows : List Row) → 1 ≤ c → T (allAnswered fs t) → Same cs (firstOr faultAt rows noFault)
+  same-fields : (c : ℕ) (fs : List Field) (t : Tests fs) (xs : List ℕ) (cs : List Check) (rows : List Row) → 1 ≤ c → AllNumbered fs t → Same cs (firstOr faultAt rows noFault)
       → Same (lineChecks c fs t (partAt c (widths fs) xs) cs) (firstOr faultAt (rowsAt c fs t xs rows) noFault)
   unfolding fieldAnswer
   same-fields c [] t xs cs rows h z j = j
   same-fields c (f ∷ fs) t xs cs rows h z j =
       let w = width f in
       let r = widths fs in
-      let m = same-fields (c + w) fs (t .1) xs cs rows (omega arith) (and-r (answered (t .0)) (allAnswered fs (t .1)) z) j in
+      let m = same-fields (c + w) fs (t .1) xs cs rows (omega arith) (z .1) j in
       subst (λ l. Same (check (wellFormed f l) 4 c ∷ fieldChecks c (t .0) (lineChecks (c + w) fs (t .1) (drop w (partAt c (w + r) xs)) cs)) (firstOr faultAt (rowsAt c (f ∷ fs) t xs rows) noFault)) (sym (first-field c w r xs))
       (subst (λ l. Same (check (wellFormed f (partAt c w xs)) 4 c ∷ fieldChecks c (t .0) (lineChecks (c + w) fs (t .1) l cs)) (firstOr faultAt (rowsAt c (f ∷ fs) t xs rows) noFault)) (sym (other-fields c w r xs h))
-      (same-field (wellFormed f (partAt c w xs)) c (t .0) (lineChecks (c + w) fs (t .1) (partAt (c + w) r xs) cs) (rowsAt (c + w) fs (t .1) xs rows) (and-l (answered (t .0)) (allAnswered fs (t .1)) z) m))
+      (same-field (wellFormed f (partAt c w xs)) c (t .0) (lineChecks (c + w) fs (t .1) (partAt (c + w) r xs) cs) (rowsAt (c + w) fs (t .1) xs rows) (z .0) m))
 
-  same-checks : (cs : List Check) → T (checksAnswered cs) → Same cs (firstOr faultAt (checkRows cs) noFault)
+  same-checks : (cs : List Check) → ChecksNumbered cs → Same cs (firstOr faultAt (checkRows cs) noFault)
   unfolding firstOr pick
   same-checks [] z = passed tt
-  same-checks (check true n c ∷ cs) z = onward n c (same-checks cs (and-r (leb 1 n) (checksAnswered cs) z))
-  same-checks (check false n c ∷ cs) z = refuses cs (checkRows cs) n c (and-l (leb 1 n) (checksAnswered cs) z)
+  same-checks (check true n c ∷ cs) z = onward n c (same-checks cs (z .1))
+  same-checks (check false n c ∷ cs) z = refuses cs (checkRows cs) n c (z .0)
 
   -- A LINE OF A KIND: its first fault is the first check that fails
   pub same-faults : (p : Before) (b : Batch) (k : Kind) (line : List ℕ)
       → Same (lineChecks 6 (layout k) (testsFor p b k (fieldsOf k line)) (partAt 6 (widths (layout k)) line) (maximaFor b k (fieldsOf k line))) (faultOf p b k line)
   unfolding faultOf firstFault
   same-faults p b k line =
-      same-fields 6 (layout k) (testsFor p b k (fieldsOf k line)) line (maximaFor b k (fieldsOf k line)) (checkRows (maximaFor b k (fieldsOf k line))) (omega arith) (tests-answered p b k (fieldsOf k line))
-      (same-checks (maximaFor b k (fieldsOf k line)) (maxima-answered b k (fieldsOf k line)))
-
--- ## A line without a fault passes the tests of its fields
-
-all-hold : (c : ℕ) (fs : List Field) (t : Tests fs) (l : List ℕ) (cs : List Check) → Pass (lineChecks c fs t l cs) → Holds fs t
-all-hold c [] t l cs p = tt
-all-hold c (f ∷ fs) t l cs p = let r = field-passed c (t .0) (lineChecks (c + width f) fs (t .1) (drop (width f) l) cs) (p .1) in (r .0, all-hold (c + width f) fs (t .1) (drop (width f) l) cs (r .1))
-
-pub faultless : (p : Before) (b : Batch) (k : Kind) (line : List ℕ) → faultOf p b k line .number ≡ 0 → Holds (layout k) (testsFor p b k (fieldsOf k line))
-faultless p b k line e = by (same-faults begin p b k line) e
-  where
-    by : {f : Fault} → Same begin (lineChecks 6 (layout k) (testsFor p b k (fieldsOf k line)) (partAt 6 (widths (layout k)) line) (maximaFor b k (fieldsOf k line))) f → f .number ≡ 0 → Holds (layout k) (testsFor p b k (fieldsOf k line))
-    by (passed h) e = all-hold 6 (layout k) (testsFor p b k (fieldsOf k line)) (partAt 6 (widths (layout k)) line) (maximaFor b k (fieldsOf k line)) h
-    by (stopped c n z q) e = absurd (omega arith)
+      same-fields 6 (layout k) (testsFor p b k (fieldsOf k line)) line (maximaFor b k (fieldsOf k line)) (checkRows (maximaFor b k (fieldsOf k line))) (omega arith) (numbered p b k (fieldsOf k line))
+      (same-checks (maximaFor b k (fieldsOf k line)) (maxima-numbered b k (fieldsOf k line)))
 
 -- a trailer that is accepted says what the batch has
 pub trailer-says : (p : Before) (b : Batch) (line : List ℕ) → faultOf p b BatchTrailer line .number ≡ 0 → recordFor BatchTrailer (fieldsOf BatchTrailer line) ≡ the.BatchTrailer (b .total) (b .accounts) (b .items)
 trailer-says p b line e =
-    let h = faultless p b BatchTrailer line e in
+    let h = faultless p b BatchTrailer line e .1 in
     rw (eqb→eq _ (b .total) (h .0 .1 .0), eqb→eq _ (b .accounts) (h .1 .0 .0), eqb→eq _ (b .items) (h .1 .1 .0 .1 .0))

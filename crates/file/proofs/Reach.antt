@@ -33,7 +33,7 @@ use Rattle.reading.specs.declared.Judged.{Judged}
 use Rattle.reading.proofs.Limits.{within-yes}
 use Rattle.reading.proofs.Verdicts.{First, beyond, halted, moved, first}
 use Rattle.reading.proofs.Judgements.{limited-after}
-use Rattle.file.proofs.Faults.{faultless}
+use Rattle.record.proofs.Faultless.{faultless}
 
 -- a name and its city
 abbrev nameLines : Name → ℕ
@@ -195,8 +195,8 @@ module _ (s : State) (limited : Limited s) (i : LinesAt (s .stage) s) where
   lines-next : (k : Kind) (line : List ℕ) → T (allowed s k) → faultOf (s .before) (s .batch) k line .number ≡ 0 → LinesAt (nextFor s k (fieldsOf k line) .stage) (nextFor s k (fieldsOf k line))
   unfolding allowed mayFix mayName mayRefer mayDescribe mayText mayEnd
   lines-next FileHeader line a f = let w = at-stage Start a in omega arith
-  lines-next BatchHeaderB line a f = let h = faultless (s .before) (s .batch) BatchHeaderB line f .1 .1 .0 in opened-lines (fieldsOf BatchHeaderB line) a (h .0) (h .1 .0)
-  lines-next BatchHeaderC line a f = let h = faultless (s .before) (s .batch) BatchHeaderC line f .1 .1 .0 in opened-lines (unidentified (fieldsOf BatchHeaderC line)) a (h .0) (h .1 .0)
+  lines-next BatchHeaderB line a f = let h = faultless (s .before) (s .batch) BatchHeaderB line f .1 .1 .1 .0 in opened-lines (fieldsOf BatchHeaderB line) a (h .0) (h .1 .0)
+  lines-next BatchHeaderC line a f = let h = faultless (s .before) (s .batch) BatchHeaderC line f .1 .1 .1 .0 in opened-lines (unidentified (fieldsOf BatchHeaderC line)) a (h .0) (h .1 .0)
   lines-next FixedDescription line a f =
       let p = and-l (isStage (s .stage) Opened) (ltb (s .batch .fixed) 4) a in
       let w = at-stage Opened p in

@@ -24,8 +24,11 @@ pub data Check : Type 0 where
 
 -- ## The tests of each field by what they need and its value
 
+abbrev pub rangeTest : ℕ → ℕ → ℕ → Test
+rangeTest low high v = test (inRange low high v) wrongValue
+
 abbrev pub rangeTests : ℕ → ℕ → ℕ → List Test
-rangeTests low high v = test (inRange low high v) wrongValue ∷ []
+rangeTests low high v = rangeTest low high v ∷ []
 
 -- a text that has to be this one
 abbrev pub textTests : List ℕ → List ℕ → List Test
@@ -54,17 +57,17 @@ abbrev pub groupTests : Option Group → List ℕ → List Test
 groupTests g t = test (isGroup t) wrongValue ∷ sameGroupTests g t
 
 abbrev pub orderingTests : ℕ → List Test
-orderingTests v = test (inRange 1 maxAccount v) wrongValue ∷ test (isOrderingAccount v) wrongAccount ∷ []
+orderingTests v = rangeTest 1 maxAccount v ∷ test (isOrderingAccount v) wrongAccount ∷ []
 
 -- the number before, 0 for none
 abbrev pub isNext : ℕ → ℕ → Bool
 isNext before n = eqb before 0 || eqb n (suc before)
 
 abbrev pub sequenceTests : ℕ → ℕ → List Test
-sequenceTests before v = test (inRange 1 maxSequence v) wrongValue ∷ test (isNext before v) differs ∷ []
+sequenceTests before v = rangeTest 1 maxSequence v ∷ test (isNext before v) differs ∷ []
 
 abbrev pub nameCodeTests : Group → ℕ → List Test
-nameCodeTests g v = test (inRange 1 2 v) wrongValue ∷ test (isNameCodeIn g v) differs ∷ []
+nameCodeTests g v = rangeTest 1 2 v ∷ test (isNameCodeIn g v) differs ∷ []
 
 abbrev pub testCodeTests : List ℕ → List Test
 testCodeTests t = test (isTestCode t) wrongValue ∷ []
@@ -78,14 +81,14 @@ amountTests = rangeTests 1 maxAmount
 
 -- by whether it has to be the own account
 abbrev pub partyTests : Bool → ℕ → ℕ → List Test
-partyTests mine own v = test (inRange 1 maxAccount v) wrongValue ∷ test (isAccount v) wrongAccount ∷ test (isOwnIf mine own v) differs ∷ []
+partyTests mine own v = rangeTest 1 maxAccount v ∷ test (isAccount v) wrongAccount ∷ test (isOwnIf mine own v) differs ∷ []
 
 -- a trailer's number, which may be zero or not
 abbrev pub equalTests : ℕ → ℕ → List Test
 equalTests right v = test (eqb v right) wrongTrailer ∷ []
 
 abbrev pub totalTests : ℕ → ℕ → ℕ → ℕ → List Test
-totalTests low high right v = test (inRange low high v) wrongValue ∷ equalTests right v
+totalTests low high right v = rangeTest low high v ∷ equalTests right v
 
 -- ## The tests of each record
 

@@ -5,3 +5,4 @@ pub mod FileFaults
 pub mod BatchFaults
 pub mod ItemFaults
 pub mod Coding
+pub mod Faultless

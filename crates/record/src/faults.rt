@@ -56,12 +56,11 @@ fn city(line: &[u8]) -> Fault
 }
 
 // The first fault of a line of that kind, in a batch so far. A transaction has none here: its fields are read with
-// their faults, by `item::transaction_in`. (A header's function gets a copy: what goes to a call that is not inlined
+// their faults, by `item::transaction_in`. (A function that takes what came before gets a copy: what goes to a call that is not inlined
 // stands in memory, and on every line where it is the state's own.)
 pub fn fault_in(kind: Kind, line: &[u8], before: Before, batch: Batch) -> Fault
     ensures { λ r. ⌜ r ≡ otherFault before batch kind (now (line .entry)) ⌝ }
 {
-    let group = before.group;
     match kind {
         Kind::FileHeader => file_header(line),
         Kind::BatchHeaderB => {
@@ -72,7 +71,10 @@ pub fn fault_in(kind: Kind, line: &[u8], before: Before, batch: Batch) -> Fault
             let last = before;
             batch_header(line, true, last)
         }
-        Kind::OrderingParty => ordering_party(line, group),
+        Kind::OrderingParty => {
+            let last = before;
+            ordering_party(line, last)
+        }
         Kind::Transaction => fault(0, 0),
         Kind::NamePayer | Kind::NameBeneficiary => text(line, 35, 40, 10, 41),
         Kind::CityPayer | Kind::CityBeneficiary => city(line),

@@ -1,38 +1,28 @@
 -- A line that is accepted: its kind, and that it is its fields as the table writes them. Assumes nothing.
 use Prim.Native.Nat.{ℕ, _+_, _-_, _≤_, _<_}
-use mathlib.Core.Path.{_≡_, refl, sym, ap, ap₂, _∙_, subst}
+use mathlib.Core.Path.{_≡_, refl, sym, ap, ap₂, _∙_}
 use mathlib.Core.List.{List, [], _∷_, _++_, append-assoc}
-use mathlib.Core.Bool.{Bool, true, false, not}
-use mathlib.Core.Option.{Option, none, some}
+use mathlib.Core.Bool.{true}
 use native.Mathlib.Omega.{arith}
-use borrow.Author.Tests.{eqb-true, eq-eqb}
 use lib.ListN.{length, take, drop, take-append-drop, length-take, length-drop}
 use lib.Seq.{take-all, take-add, take-take, drop-drop, length-take-le}
-use lib.Dec.{T, eqb}
-use Rattle.machine.specs.Lists.{pick}
-use Rattle.machine.proofs.Base.{true≢false, of-eq}
+use Rattle.machine.proofs.Base.{of-eq}
 use Rattle.format.specs.Fields.{Field, width, widths, writeFields, Fits}
 use Rattle.format.specs.Records.{layout, code, Fields}
 use Rattle.format.specs.Language.{Ending, crlf, endBytes}
 use Rattle.format.specs.Cutting.{cutOf, nextLine}
-use Rattle.format.specs.Tests.{Test, test, Tests, sameGroupTests}
+use Rattle.format.specs.Tests.{Tests}
 use Rattle.format.specs.declared.Kind.{Kind}
-use Rattle.format.specs.declared.Kind.the-variants.{FileHeader, BatchHeaderB, BatchHeaderC, FixedDescription, OrderingParty, Transaction, NamePayer, CityPayer, PaymentReference, Description, NameBeneficiary, CityBeneficiary, BatchTrailer, FileTrailer}
-use Rattle.format.specs.declared.Group.{Group}
 use Rattle.format.specs.Answers.{acceptance}
 use Rattle.format.specs.declared.Code.the-variants.{Of}
-use Rattle.format.proofs.Cutting.{cut-bytes, whole-line, whole-long, whole-next, line-inside}
-use Rattle.format.proofs.Checks.{Hold, Holds, read-field}
+use Rattle.format.proofs.Cutting.{cut-bytes, whole-line, whole-long, whole-next}
+use Rattle.format.proofs.Checks.{Holds, read-field}
 use Rattle.format.proofs.Link.{line-widths}
-use Rattle.field.specs.Rows.{Row, partAt, firstAnswer, fieldAnswer, rowsAt, checkRows, fieldsAt, firstOr}
-use Rattle.field.proofs.Numerics.{Numbered}
+use Rattle.field.specs.Rows.{partAt, fieldsAt}
 use Rattle.record.specs.Kinds.{codeOf}
-use Rattle.record.specs.Faults.{faultAt, noFault, firstFault, fieldsOf, knownGroup, testsFor, maximaFor, faultOf}
+use Rattle.record.specs.Faults.{fieldsOf, testsFor}
 use Rattle.record.specs.Read.{recordFor, textFor}
-use Rattle.record.specs.declared.Before.{Before}
-use Rattle.record.specs.declared.Batch.{Batch}
-use Rattle.record.specs.declared.Fault.{Fault}
-use Rattle.record.proofs.Reading.{is-formed}
+use Rattle.record.proofs.Faultless.{Formed, faultless}
 use Rattle.record.proofs.Coding.{code-is}
 use Rattle.reading.specs.Step.{nextFor, judgedFirst, readBy, stepAt}
 use Rattle.reading.specs.declared.State.{State}
@@ -43,17 +33,7 @@ use Rattle.reading.proofs.Slices.{step-own}
 use Rattle.reading.proofs.Verdicts.{next-line, Taken, takes}
 use Rattle.writer.specs.Encoding.{lineEnd}
 
--- ## Rows that all passed
-
-none-fails : (ts : List Test) → Numbered ts → firstAnswer ts ≡ 0 → Hold ts
-unfolding pick
-none-fails [] n z = tt
-none-fails (test true a ∷ ts) n z = (tt, none-fails ts (n .1) z)
-none-fails (test false a ∷ ts) n z = absurd (subst (λ b. T (not b)) (eq-eqb a 0 z) (n .0))
-
-abbrev AllNumbered : (fs : List Field) → Tests fs → Type 0
-AllNumbered [] t = Unit {0}
-AllNumbered (f ∷ fs) t = Numbered (t .0) × AllNumbered fs (t .1)
+-- ## Fields that are well formed are what the table writes of them
 
 -- what is known of a line whose fields have no fault
 pub record Faultless (c : ℕ) (fs : List Field) (t : Tests fs) (xs : List ℕ) : Type 0 where
@@ -61,50 +41,14 @@ pub record Faultless (c : ℕ) (fs : List Field) (t : Tests fs) (xs : List ℕ) 
   pub holds : Holds fs t
   pub is : take (widths fs) (drop (c - 1) xs) ≡ writeFields fs (fieldsAt c fs xs)
 
-faultless : (c : ℕ) (fs : List Field) (t : Tests fs) (xs : List ℕ) (k : List Row) → 1 ≤ c → (c - 1) + widths fs ≤ length xs → AllNumbered fs t → firstOr faultAt (rowsAt c fs t xs k) noFault .number ≡ 0 → Faultless c fs t xs
-unfolding firstOr pick
-faultless c [] t xs k p h n z = record { fits = tt; holds = tt; is = refl }
-faultless c (f ∷ fs) t xs k p h n z = by (eqb no 0) refl (faultless (c + width f) fs (t .1) xs k (omega arith) (omega arith) (n .1)) z
-  where
-    no : ℕ
-    no = fieldAnswer f (t .0) (partAt c (width f) xs)
-
-    rest : Fault
-    rest = firstOr faultAt (rowsAt (c + width f) fs (t .1) xs k) noFault
-
-    by : (q : Bool) → eqb no 0 ≡ q → (rest .number ≡ 0 → Faultless (c + width f) fs (t .1) xs) → pick q rest (faultAt c no) .number ≡ 0 → Faultless c (f ∷ fs) t xs
-    by true e again y =
-        let a = is-formed f (t .0) (partAt c (width f) xs) (eqb-true no 0 e) in
-        let long : length (partAt c (width f) xs) ≡ width f = length-take-le (width f) (drop (c - 1) xs) (rw length-drop (omega arith)) in
-        let m = read-field f (partAt c (width f) xs) long (of-eq _ (a .0)) in
-        let r = again y in
-        let q : (c - 1) + width f ≡ c + width f - 1 = omega arith in
-        record {
-          fits = (m .0, r .fits);
-          holds = (none-fails (t .0) (n .0) (a .1), r .holds);
-          is = take-add (width f) (widths fs) (drop (c - 1) xs) ∙ ap₂ _++_ (m .1) (ap (take (widths fs)) (drop-drop (width f) (c - 1) xs ∙ ap (λ i. drop i xs) q) ∙ r .is);
-        }
-    by false e again y = absurd (true≢false (sym (eq-eqb no 0 y) ∙ e))
-
-group-numbered : (o : Option Group) (t : List ℕ) → Numbered (sameGroupTests o t)
-group-numbered none t = tt
-group-numbered (some g) t = (tt, tt)
-
-numbered : (p : Before) (b : Batch) (k : Kind) (x : Fields k) → AllNumbered (layout k) (testsFor p b k x)
-numbered p b FileHeader x = ((tt, tt), ((tt, tt), (tt, ((tt, (tt, tt)), ((tt, tt), (tt, tt))))))
-numbered p b BatchHeaderB x = ((tt, group-numbered (knownGroup p) _), ((tt, (tt, tt)), ((tt, (tt, tt)), ((tt, tt), (tt, (tt, tt))))))
-numbered p b BatchHeaderC x = ((tt, group-numbered (knownGroup p) _), ((tt, (tt, tt)), ((tt, (tt, tt)), ((tt, tt), (tt, (tt, tt))))))
-numbered p b FixedDescription x = (tt, (tt, tt))
-numbered p b OrderingParty x = ((tt, (tt, tt)), ((tt, tt), (tt, ((tt, tt), (tt, tt)))))
-numbered p b Transaction x = ((tt, (tt, tt)), ((tt, tt), ((tt, (tt, (tt, tt))), ((tt, (tt, (tt, tt))), (tt, tt)))))
-numbered p b NamePayer x = (tt, (tt, tt))
-numbered p b CityPayer x = (tt, tt)
-numbered p b PaymentReference x = (tt, (tt, tt))
-numbered p b Description x = (tt, (tt, tt))
-numbered p b NameBeneficiary x = (tt, (tt, tt))
-numbered p b CityBeneficiary x = (tt, tt)
-numbered p b BatchTrailer x = ((tt, (tt, tt)), ((tt, tt), ((tt, (tt, tt)), (tt, tt))))
-numbered p b FileTrailer x = (tt, tt)
+formed-back : (c : ℕ) (fs : List Field) (xs : List ℕ) → 1 ≤ c → (c - 1) + widths fs ≤ length xs → Formed c fs xs → Fits fs (fieldsAt c fs xs) × (take (widths fs) (drop (c - 1) xs) ≡ writeFields fs (fieldsAt c fs xs))
+formed-back c [] xs p h f = (tt, refl)
+formed-back c (f ∷ fs) xs p h w =
+    let long : length (partAt c (width f) xs) ≡ width f = length-take-le (width f) (drop (c - 1) xs) (rw length-drop (omega arith)) in
+    let m = read-field f (partAt c (width f) xs) long (of-eq _ (w .0)) in
+    let r = formed-back (c + width f) fs xs (omega arith) (omega arith) (w .1) in
+    let q : (c - 1) + width f ≡ c + width f - 1 = omega arith in
+    ((m .0, r .0), take-add (width f) (widths fs) (drop (c - 1) xs) ∙ ap₂ _++_ (m .1) (ap (take (widths fs)) (drop-drop (width f) (c - 1) xs ∙ ap (λ i. drop i xs) q) ∙ r .1))
 
 -- ## An accepted line
 
@@ -120,17 +64,18 @@ pub record Accepted (s : State) (xs : List ℕ) : Type 0 where
   pub step : stepAt s xs ≡ takenAs s kind (fieldsOf kind (take 50 xs))
 
 of-taken : {s : State} {xs : List ℕ} (t : Taken s xs) → stepAt s xs ≡ readBy (take 50 xs) (judgedFirst s xs .code) (judgedFirst s xs) → Accepted s xs
-unfolding faultOf firstFault
 of-taken {s} {xs} t e =
     let k = t .kind in
     let x = fieldsOf k (take 50 xs) in
     let l : length (take 50 xs) ≡ 50 = length-take-le 50 xs (omega (arith, whole-long xs (t .whole), cut-bytes xs)) in
     let v = line-widths k .1 in
+    let f = faultless (s .before) (s .batch) k (take 50 xs) (t .faultless) in
+    let m = formed-back 6 (layout k) (take 50 xs) (omega arith) (omega arith) (f .0) in
     record {
       whole = t .whole;
       kind = k;
       coded = t .coded;
-      fields = faultless 6 (layout k) (testsFor (s .before) (s .batch) k x) (take 50 xs) (checkRows (maximaFor (s .batch) k x)) (omega arith) (omega arith) (numbered (s .before) (s .batch) k x) (t .faultless);
+      fields = record { fits = m .0; holds = f .1; is = m .1 };
       step = e ∙ ap (λ (j : Judged). readBy (take 50 xs) (j .code) j) (t .is) ∙ ap (λ n. record { answer = acceptance n; next = nextFor s k x; read = recordFor k x; text = textFor k x }) (next-line s k x);
     }
 

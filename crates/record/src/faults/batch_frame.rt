@@ -29,17 +29,17 @@ use format::Group;
 use format::codes;
 
 // A number from 1 to 9999, and the one after that before it where there is one.
-fn sequence_answer(line: &[u8], before: u64) -> u8
-    ensures { λ r. ⌜ r ≡ numericAnswer (sequenceTests before) (partAt 18 4 (now (line .entry))) ⌝ }
+fn sequence_answer(line: &[u8], last: u64) -> u8
+    ensures { λ r. ⌜ r ≡ numericAnswer (sequenceTests last) (partAt 18 4 (now (line .entry))) ⌝ }
 {
     let n = ranged(line, 17, 4, 1, Batch::MAX_SEQUENCE);
     if n.number != 0 {
         return n.number;
     }
-    if before == 0 {
+    if last == 0 {
         return 0;
     }
-    if n.value - 1 == before {
+    if n.value - 1 == last {
         0
     } else {
         format::DIFFERS
@@ -114,9 +114,10 @@ fn test_code_answer(line: &[u8]) -> u8
     }
 }
 
-pub(crate) fn ordering_party(line: &[u8], group: Group) -> Fault
-    ensures { λ r. ⌜ r ≡ fieldsFault OrderingParty (orderingPartyTests group) (now (line .entry)) ⌝ }
+pub(crate) fn ordering_party(line: &[u8], before: Before) -> Fault
+    ensures { λ r. ⌜ r ≡ fieldsFault OrderingParty (orderingPartyTests (before .group)) (now (line .entry)) ⌝ }
 {
+    let group = before.group;
     let code = name_code_answer(line, group);
     if code != 0 {
         return fault(code, 6);

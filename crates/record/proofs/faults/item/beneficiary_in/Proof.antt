@@ -5,4 +5,10 @@ use Rattle.record.proofs.faults.item.beneficiary_in.Statement.{statemen
 use Rattle.record.proofs.faults.item.beneficiary_in.Tie as tie
 
 pub beneficiary-in-spec : {M : Type 1} → statement M
-beneficiary-in-spec = tie.close (tie.spec (λ c κs. search needs) (λ c κs. search needs) (λ c. search party-via))
+beneficiary-in-spec =
+    tie.close
+    (tie.spec
+    (λ c κs. search needs)  -- is-debits-requires
+    (λ c κs. search needs)  -- party-requires
+    (λ c. search party-via)  -- returns
+    )

@@ -5,4 +5,10 @@ use Rattle.record.proofs.faults.item.payer_in.Statement.{statement}
 use Rattle.record.proofs.faults.item.payer_in.Tie as tie
 
 pub payer-in-spec : {M : Type 1} → statement M
-payer-in-spec = tie.close (tie.spec (λ c κs. search needs) (λ c κs. search needs) (λ c. search party-via))
+payer-in-spec =
+    tie.close
+    (tie.spec
+    (λ c κs. search needs)  -- is-payments-requires
+    (λ c κs. search needs)  -- party-requires
+    (λ c. search party-via)  -- returns
+    )
