@@ -1,4 +1,4 @@
--- A text put at a place of a room. Assumes nothing.
+-- A text put into a room from an offset on. Assumes nothing.
 use Prim.Native.Nat.{ℕ, _+_, _-_, _≤_, _<_}
 use mathlib.Core.Path.{_≡_, refl, sym, ap, ap₂, _∙_}
 use mathlib.Core.List.{List, _++_, append-assoc}

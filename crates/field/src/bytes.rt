@@ -119,7 +119,7 @@ fn copy(text: &[u8], at: usize, room: &mut [u8])
     }
 }
 
-// A text at a place of a room. Where it does not fit, the room stays as it was.
+// A text in a room from an offset on. Where it does not fit, the room stays as it was.
 pub fn put(text: &[u8], at: usize, room: &mut [u8])
     ensures { λ _. ⌜ now (room .exit) ≡ putIn (now (room .entry)) at (now (text .entry)) ⌝ }
 {

@@ -17,12 +17,13 @@ use Rattle.format.specs.declared.Kind.the-variants.{FileHeader, BatchHeaderB, B
 use Rattle.format.specs.declared.Group.{Group}
 use Rattle.format.specs.declared.Group.the-variants.{Payments, Debits}
 use Rattle.format.proofs.Every.{kinds, every}
-use Rattle.format.proofs.Reader.{Room, fresh, left, Phase, start, headed, opened, ordered, paying, paid, owing, owed, closed, done, Context, at, Place, Choice, choices, kindOf, find}
+use Rattle.format.proofs.Reader.{Room, fresh, left, Phase, start, headed, opened, ordered, paying, paid, owing, owed, closed, done, Context, at, Place, Choice, choices, find}
 use Rattle.format.proofs.Reader as the
-use Rattle.format.proofs.Link.{find-code, kindOf-code}
+use Rattle.format.proofs.Link.{find-code}
 use Rattle.record.specs.Faults.{knownGroup}
 use Rattle.record.specs.declared.Before.{Before}
 use Rattle.record.specs.declared.Batch.{Batch}
+use Rattle.record.proofs.Coding.{code-found, one-kind}
 use Rattle.reading.specs.declared.Stage.{Stage}
 use Rattle.reading.specs.declared.Stage.the-variants.{Start, Headed, Opened, Ordered, Item, Closed, Done}
 use Rattle.reading.specs.declared.Name.{Name}
@@ -197,9 +198,6 @@ allowed-place s k =
     let room = roomOf (s .item .reference) (s .item .descriptions) in
     allowed-follows s k ∙ on-every (following s) (hasPlace (phaseOf s)) (on-each (following s) (hasPlace (phaseOf s)) kinds (same-order (s .stage) (knownGroup (s .before)) (s .before .group) (4 - s .batch .fixed) (s .item .name) room)) k
 
-one-kind : (k m : Kind) → code k ≡ code m → k ≡ m
-one-kind k m e = let q : _≡_ {A = Option Kind} (some k) (some m) = sym (kindOf-code k) ∙ ap (λ c. kindOf c kinds) e ∙ kindOf-code m in cc
-
 pub no-place : (s : State) (k : Kind) → allowed s k ≡ false → find (code k) (choices (phaseOf s)) ≡ none
 no-place s k h = by (find (code k) (choices (phaseOf s))) (sym (allowed-place s k) ∙ h)
   where
@@ -212,4 +210,4 @@ its-place s k h = by (find (code k) (choices (phaseOf s))) refl (sym (allowed-pl
   where
     by : (o : Option (Choice (phaseOf s))) → find (code k) (choices (phaseOf s)) ≡ o → isSome o ≡ true → Place (phaseOf s) k
     by none w e = absurd (subst T (sym e) tt)
-    by (some o) w e = subst (Place (phaseOf s)) (sym (one-kind k (o .0) (find-code (code k) (choices (phaseOf s)) o w))) (o .1)
+    by (some o) w e = subst (Place (phaseOf s)) (sym (one-kind k (o .0) (code-found k) (find-code (code k) (choices (phaseOf s)) o w))) (o .1)

@@ -3,8 +3,8 @@ use mathlib.Core.Path.{_≡_}
 use mathlib.Core.List.{[], _∷_}
 use Rattle.machine.specs.Lists.{same}
 use Rattle.format.specs.declared.Kind.{Kind}
-use Rattle.format.specs.declared.Kind.the-variants.{FileHeader, BatchHeaderB, BatchHeaderC, FileTrailer}
-use Rattle.format.proofs.Every.{every, oneOf}
+use Rattle.format.specs.declared.Kind.the-variants.{FileHeader, FileTrailer}
+use Rattle.format.proofs.Every.{every, oneOf, headers}
 use Rattle.reading.specs.Order.{mayOpen, mayFix, mayEnd, mayPay, mayName, mayText, mayRefer, mayDescribe, allowed}
 use Rattle.reading.specs.declared.Stage.the-variants.{Start, Headed, Closed}
 use Rattle.reading.specs.declared.State.{State}
@@ -14,10 +14,10 @@ module _ (s : State) where
   unfolding allowed mayOpen mayFix mayEnd mayPay mayName mayText mayRefer mayDescribe same
   at-start e = every (λ k. allowed s k ≡ oneOf (FileHeader ∷ []) k) (rw e) (rw e) (rw e) (rw e) (rw e) (rw e) (rw e) (rw e) (rw e) (rw e) (rw e) (rw e) (rw e) (rw e)
 
-  pub at-header : s .stage ≡ Headed → (k : Kind) → allowed s k ≡ oneOf (BatchHeaderB ∷ BatchHeaderC ∷ []) k
+  pub at-header : s .stage ≡ Headed → (k : Kind) → allowed s k ≡ oneOf headers k
   unfolding allowed mayOpen mayFix mayEnd mayPay mayName mayText mayRefer mayDescribe same
-  at-header e = every (λ k. allowed s k ≡ oneOf (BatchHeaderB ∷ BatchHeaderC ∷ []) k) (rw e) (rw e) (rw e) (rw e) (rw e) (rw e) (rw e) (rw e) (rw e) (rw e) (rw e) (rw e) (rw e) (rw e)
+  at-header e = every (λ k. allowed s k ≡ oneOf headers k) (rw e) (rw e) (rw e) (rw e) (rw e) (rw e) (rw e) (rw e) (rw e) (rw e) (rw e) (rw e) (rw e) (rw e)
 
-  pub at-trailer : s .stage ≡ Closed → (k : Kind) → allowed s k ≡ oneOf (BatchHeaderB ∷ BatchHeaderC ∷ FileTrailer ∷ []) k
+  pub at-trailer : s .stage ≡ Closed → (k : Kind) → allowed s k ≡ oneOf (FileTrailer ∷ headers) k
   unfolding allowed mayOpen mayFix mayEnd mayPay mayName mayText mayRefer mayDescribe same
-  at-trailer e = every (λ k. allowed s k ≡ oneOf (BatchHeaderB ∷ BatchHeaderC ∷ FileTrailer ∷ []) k) (rw e) (rw e) (rw e) (rw e) (rw e) (rw e) (rw e) (rw e) (rw e) (rw e) (rw e) (rw e) (rw e) (rw e)
+  at-trailer e = every (λ k. allowed s k ≡ oneOf (FileTrailer ∷ headers) k) (rw e) (rw e) (rw e) (rw e) (rw e) (rw e) (rw e) (rw e) (rw e) (rw e) (rw e) (rw e) (rw e) (rw e)

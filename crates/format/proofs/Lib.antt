@@ -1,5 +1,5 @@
 pub mod Every
-pub mod Before
+pub mod Front
 pub mod Checks
 pub mod Printable
 pub mod Reader

@@ -9,13 +9,13 @@ use lib.ListN.{length, take, drop, take-append-drop, length-drop, length-append}
 use lib.Seq.{take-at, drop-at, length-take-le, drop-drop}
 use lib.Dec.{T}
 use Rattle.machine.specs.Lists.{same}
-use Rattle.machine.proofs.Base.{next, next≢refuse, same→eq}
+use Rattle.machine.proofs.Base.{next, none≢some, next≢refuse, same→eq}
 use Rattle.format.specs.Fields.{writeFields, readFields, widths}
 use Rattle.format.specs.Records.{layout, code, Fields}
 use Rattle.format.specs.Language.{Rec, lineOf}
 use Rattle.format.specs.Answers.{unknownRecord, misplacedRecord}
 use Rattle.format.specs.declared.Kind.{Kind}
-use Rattle.format.specs.declared.Kind.the-variants.{FileHeader, BatchHeaderB, BatchHeaderC, FixedDescription, OrderingParty, Transaction, NamePayer, CityPayer, PaymentReference, Description, NameBeneficiary, CityBeneficiary, BatchTrailer, FileTrailer}
+use Rattle.format.specs.declared.Kind.the-variants.{Transaction, BatchTrailer}
 use Rattle.format.specs.declared.Group.{Group}
 use Rattle.format.proofs.Cutting.{Line}
 use Rattle.format.proofs.Checks.{judge, judge-pass, pass-judge, lineChecks, line-passed, Written, line-written}
@@ -24,11 +24,8 @@ use Rattle.format.proofs.Reader.{fresh, left, Phase, Context, State, at
 
 -- ## A record's place is found by its code
 
-none≢some : {p : Phase} (o : Choice p) → none ≡ some o → ⊥
-none≢some o e = let z : _≡_ {A = ℕ} 0 1 = cc in omega arith
-
 pub find-code : {p : Phase} (c : List ℕ) (os : List (Choice p)) (o : Choice p) → find c os ≡ some o → c ≡ code (o .0)
-find-code c [] o e = absurd (none≢some o e)
+find-code c [] o e = absurd (none≢some e)
 find-code {p} c (u ∷ os) o e = by (same c (code (u .0))) refl e (find-code c os o)
   where
     by : (q : Bool) → same c (code (u .0)) ≡ q → cond q (some u) (find c os) ≡ some o → (find c os ≡ some o → c ≡ code (o .0)) → c ≡ code (o .0)

@@ -52,9 +52,13 @@ CLIEOP03 = 67 ∷ 76 ∷ 73 ∷ 69 ∷ 79 ∷ 80 ∷ 48 ∷ 51 ∷ []
 abbrev pub EUR : List ℕ
 EUR = 69 ∷ 85 ∷ 82 ∷ []
 
--- P or T
+-- P, or T for a test
+abbrev pub testText : Bool → List ℕ
+testText false = 80 ∷ []
+testText true = 84 ∷ []
+
 unfoldable pub isTestCode : List ℕ → Bool
-isTestCode t = same t (80 ∷ []) || same t (84 ∷ [])
+isTestCode t = same t (testText false) || same t (testText true)
 
 -- ## Dates: ddmmyy, year 20yy, where every fourth year is a leap year
 

@@ -34,7 +34,7 @@ spaces n = replicate n 32
 abbrev pub inRange : ℕ → ℕ → ℕ → Bool
 inRange low high n = leb low n && leb n high
 
--- a text at a place of a room, and the other bytes as they were
+-- a text in a room from an offset on, and the other bytes as they were
 unfoldable pub pasted : List ℕ → ℕ → List ℕ → List ℕ
 pasted room at text = (take at room ++ text) ++ drop (at + length text) room
 

@@ -8,7 +8,7 @@ use borrow.Author.Tests.{eq-eqb, ne-eqb, ltb-true, eqb-true, eqb-false}
 use lib.ListN.{take}
 use lib.Dec.{eqb}
 use Rattle.machine.specs.Lists.{pick}
-use Rattle.machine.proofs.Base.{and-second, true≢false}
+use Rattle.machine.proofs.Base.{and-second, never}
 use Rattle.format.specs.Records.{amount}
 use Rattle.format.specs.Rules.{maxFixed, maxDescriptions, mostDescriptions}
 use Rattle.format.specs.Cutting.{cutOf}
@@ -29,7 +29,7 @@ use Rattle.format.proofs.Every.{every}
 use Rattle.record.proofs.BatchFaults.{header-bounded, identified-bounded}
 use Rattle.record.proofs.ItemFaults.{transaction-read, transaction-refused, transaction-taken, transaction-bounded, below-maxima}
 use Rattle.reading.specs.State.{Limited, within}
-use Rattle.reading.specs.Bounds.{Bounded}
+use Rattle.reading.specs.Bounds.{Small}
 use Rattle.reading.specs.Order.{isStage, mayFix, mayText, mayDescribe, allowed}
 use Rattle.reading.specs.Step.{nextFor, paid, refused, taken, judgedBy, judgedAs, judgedKind, judgedCode, judgedLine, isDone, judgedFirst}
 use Rattle.reading.specs.declared.Stage.the-variants.{Opened}
@@ -72,18 +72,15 @@ module _ {r : TransactionRead} (s : State) (line : List ℕ) (e : r ≡ transact
     unfolding judgedAs pick
     pay-taken y h = ap (taken Transaction) (h ∙ ap (λ t. paid s t) (transaction-read (s .before) (s .batch) line e z)) ∙ sym (ap (judgedBy s Transaction line) (sym is-fault) ∙ rw (eq-eqb _ _ y))
 
-  pub pay-bounded : Bounded (r .read)
+  pub pay-bounded : Small (r .read)
   pay-bounded = let b = transaction-bounded (s .before .group) (s .batch .account) line e in record { amount = omega (arith, b .amount); payer = omega (arith, b .payer); beneficiary = omega (arith, b .beneficiary) }
 
 pub ruleset pays = (pay-refused, pay-above, pay-taken)
 
 -- ## Kinds and codes
 
-no : {A : Type 0} → false ≡ true → A
-no h = absurd (true≢false (sym h))
-
 is-transaction : (k : Kind) → isTransaction k ≡ true → k ≡ Transaction
-is-transaction = every (λ k. isTransaction k ≡ true → k ≡ Transaction) no no no no no (λ h. refl) no no no no no no no no
+is-transaction = every (λ k. isTransaction k ≡ true → k ≡ Transaction) never never never never never (λ h. refl) never never never never never never never never
 
 module _ {b : Bool} (s : State) (k : Kind) (line : List ℕ) (e : b ≡ allowed s k) where
   pub kind-pays : {x : Judged} {t : Bool} → b ≡ true → t ≡ isTransaction k → t ≡ true → x ≡ judgedAs s Transaction line → x ≡ judgedKind s k line
@@ -149,17 +146,17 @@ text-room s a =
     let r = s .item .reference in
     omega (arith, ltb-true (s .item .descriptions) (mostDescriptions r) (and-second (mayText (s .stage) (s .before .group) (s .item .name)) _ a), four-at-most r)
 
-abbrev Roomy : Batch → ℕ → Type 0
-Roomy b n = (b .items < 100000) × (b .total + n ≤ 4537802160901)
+abbrev HasRoom : Batch → ℕ → Type 0
+HasRoom b n = (b .items < 100000) × (b .total + n ≤ 4537802160901)
 
-item-room : (p : Before) (b : Batch) (line : List ℕ) → faultOf p b Transaction line .number ≡ 0 → Roomy b (transactionFor (fieldsOf Transaction line) .amount)
+item-room : (p : Before) (b : Batch) (line : List ℕ) → faultOf p b Transaction line .number ≡ 0 → HasRoom b (transactionFor (fieldsOf Transaction line) .amount)
 item-room p b line z = by (transactionOf (p .group) (b .account) line) refl (eqb (transactionOf (p .group) (b .account) line .number) 0) refl
   where
-    by : (r : TransactionRead) → r ≡ transactionOf (p .group) (b .account) line → (q : Bool) → eqb (r .number) 0 ≡ q → Roomy b (transactionFor (fieldsOf Transaction line) .amount)
+    by : (r : TransactionRead) → r ≡ transactionOf (p .group) (b .account) line → (q : Bool) → eqb (r .number) 0 ≡ q → HasRoom b (transactionFor (fieldsOf Transaction line) .amount)
     by r e true h =
         let y = eqb-true (r .number) 0 h in
         let m = ap (λ (f : Fault). f .number) (sym (transaction-taken p b line e y)) ∙ z in
-        subst (λ t. Roomy b (t .amount)) (transaction-read p b line e y) (below-maxima b (r .read .amount) m)
+        subst (λ t. HasRoom b (t .amount)) (transaction-read p b line e y) (below-maxima b (r .read .amount) m)
     by r e false h = absurd (eqb-false (r .number) 0 h (ap (λ (f : Fault). f .number) (sym (transaction-refused p b line e (eqb-false (r .number) 0 h))) ∙ z))
 
 same-limited : {s u : State} → u .before ≡ s .before → u .batch ≡ s .batch → u .item .descriptions ≡ s .item .descriptions → Limited s → Limited u

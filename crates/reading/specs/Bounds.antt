@@ -9,7 +9,7 @@ pub record Roomy (b : Batch) : Type 0 where
   pub total : b .total ≤ maxTotal
   pub accounts : b .accounts ≤ maxAccount
 
-pub record Bounded (t : TransactionFields) : Type 0 where
+pub record Small (t : TransactionFields) : Type 0 where
   pub amount : t .amount ≤ 1000000000000000000
   pub payer : t .payer ≤ 1000000000000000000
   pub beneficiary : t .beneficiary ≤ 1000000000000000000

@@ -1,5 +1,5 @@
-// The judging of lines. Each function that takes the state has one caller, so that the compiler puts them all into the
-// loop of `run`; whoever judges a line calls `lines`.
+// The judging of lines. Each function that judges has one caller, so that the compiler puts them all into the loop of
+// `run`; whoever judges a line calls `lines`.
 ghost use mathlib.Core.Path.{_≡_};
 ghost use mathlib.Core.Bool.{false};
 ghost use Prim.Native.Nat.{_≤_};

@@ -9,7 +9,7 @@ ghost use Rattle.format.specs.declared.Kind.the-variants.{BatchHeaderB};
 ghost use Rattle.reading.specs.State.{Limited, maxLine};
 ghost use Rattle.reading.specs.Step.{onward, moved, openedBatch, opened, fixedOne, withFixed, paidBatch, nameIf};
 ghost use Rattle.reading.specs.Step.{openedItem, paid, named, afterText, texted, closed, closing, nextFor};
-ghost use Rattle.reading.specs.Bounds.{Roomy, Bounded};
+ghost use Rattle.reading.specs.Bounds.{Roomy, Small};
 use crate::Name;
 use crate::OpenItem;
 use crate::Stage;
@@ -51,7 +51,7 @@ fn fixed_one(b: Batch) -> Batch
 
 fn paid_batch(b: Batch, t: TransactionFields) -> Batch
     requires batch { ⌜ Roomy b ⌝ }
-    requires transaction { ⌜ Bounded t ⌝ }
+    requires transaction { ⌜ Small t ⌝ }
     ensures { λ r. ⌜ r ≡ paidBatch b t ⌝ }
 {
     Batch {
@@ -145,7 +145,7 @@ impl State {
     pub(crate) fn paid(self, t: TransactionFields) -> State
         requires line { ⌜ self .line ≤ maxLine ⌝ }
         requires limited { ⌜ Limited self ⌝ }
-        requires transaction { ⌜ Bounded t ⌝ }
+        requires transaction { ⌜ Small t ⌝ }
         ensures { λ r. ⌜ r ≡ paid self t ⌝ }
     {
         let before = self.before;

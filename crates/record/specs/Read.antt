@@ -5,7 +5,7 @@ use mathlib.Core.Bool.{Bool, true, false}
 use Rattle.machine.specs.Lists.{same, spaces, putIn}
 use Rattle.format.specs.Fields.{Field, numeric, filled, optional, free, filler, width, Value, Values}
 use Rattle.format.specs.Records.{layout, Fields, creationDate, sender, identification, duplicateCode, group, orderingAccount, sequence, batchIdentification, unidentified, nameCode, desiredDate, partyName, testCode, type, amount, payer, beneficiary, totalAmount, totalAccounts, items}
-use Rattle.format.specs.Rules.{groupOf, typeOf}
+use Rattle.format.specs.Rules.{testText, groupOf, typeOf}
 use Rattle.format.specs.Tests.{transactionTests}
 use Rattle.format.specs.declared.Kind.{Kind}
 use Rattle.format.specs.declared.Kind.the-variants.{FileHeader, BatchHeaderB, BatchHeaderC, FixedDescription, OrderingParty, Transaction, NamePayer, CityPayer, PaymentReference, Description, NameBeneficiary, CityBeneficiary, BatchTrailer, FileTrailer}
@@ -54,7 +54,7 @@ recordFor FileHeader x = the.FileHeader (creationDate x) (digitsOf (identificati
 recordFor BatchHeaderB x = the.BatchHeader (groupOf (group x)) (orderingAccount x) (sequence x) false
 recordFor BatchHeaderC x = the.BatchHeader (groupOf (group (unidentified x))) (orderingAccount (unidentified x)) (sequence (unidentified x)) true
 recordFor FixedDescription x = the.FixedDescription
-recordFor OrderingParty x = the.OrderingParty (nameCode x) (desiredDate x) (same (testCode x) (84 ∷ []))
+recordFor OrderingParty x = the.OrderingParty (nameCode x) (desiredDate x) (same (testCode x) (testText true))
 recordFor Transaction x = itemOf (typeOf (type x)) (amount x) (payer x) (beneficiary x)
 recordFor NamePayer x = the.NamePayer
 recordFor CityPayer x = the.CityPayer

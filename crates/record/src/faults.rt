@@ -56,8 +56,8 @@ fn city(line: &[u8]) -> Fault
 }
 
 // The first fault of a line of that kind, in a batch so far. A transaction has none here: its fields are read with
-// their faults, by `item::transaction_in`. (A function that takes what came before gets a copy: what goes to a call that is not inlined
-// stands in memory, and on every line where it is the state's own.)
+// their faults, by `item::transaction_in`. (A function that takes what came before gets a copy: what goes to a call
+// that is not inlined stands in memory, and on every line where it is the state's own.)
 pub fn fault_in(kind: Kind, line: &[u8], before: Before, batch: Batch) -> Fault
     ensures { λ r. ⌜ r ≡ otherFault before batch kind (now (line .entry)) ⌝ }
 {

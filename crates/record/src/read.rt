@@ -152,7 +152,7 @@ pub fn text_part(kind: Kind) -> Part
     }
 }
 
-// A record's text at the front of 35 places, the others spaces.
+// A record's text at the front of 35 characters, the others spaces.
 pub fn text_in(kind: Kind, line: &[u8]) -> [u8; 35]
     ensures { λ r. ⌜ r ≡ textFor kind (valuesOf kind (now (line .entry))) ⌝ }
 {

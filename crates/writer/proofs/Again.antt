@@ -11,11 +11,11 @@ use lib.Seq.{take-at, drop-at}
 use lib.Dec.{T, eqb, eqb→eq}
 use Rattle.machine.specs.Lists.{pick, all, same, isDigit, isSpace, spaces}
 use Rattle.machine.specs.Digits.{pow10, decimal, valueOf}
-use Rattle.machine.proofs.Base.{and-l, of-eq, yes, same→eq}
+use Rattle.machine.proofs.Base.{none≢some, and-l, of-eq, yes, same→eq}
 use Rattle.machine.proofs.Digits.{spaces-blank}
 use Rattle.format.specs.Fields.{Field, numeric, Values, writeField, writeFields, Fits}
 use Rattle.format.specs.Records.{layout, code, Fields, creationDate, fileName, sender, identification, duplicateCode, group, orderingAccount, sequence, currency, batchIdentification, nameCode, desiredDate, partyName, testCode, type, amount, payer, beneficiary, totalAmount, totalAccounts, items}
-use Rattle.format.specs.Rules.{CLIEOP03, EUR, isTestCode, isIdentification, groupText, isGroup, groupOf, typeText, typeOf, isType}
+use Rattle.format.specs.Rules.{CLIEOP03, EUR, testText, isTestCode, isIdentification, groupText, isGroup, groupOf, typeText, typeOf, isType}
 use Rattle.format.specs.Cutting.{nextLine}
 use Rattle.format.specs.declared.Kind.{Kind}
 use Rattle.format.specs.declared.Kind.the-variants as kinds
@@ -33,7 +33,7 @@ use Rattle.record.specs.Read.{itemOf, recordFor, textFor, noText, padded}
 use Rattle.reading.specs.Step.{stepAt}
 use Rattle.reading.specs.declared.State.{State}
 use Rattle.reading.specs.declared.LineRead.{LineRead}
-use Rattle.writer.specs.Encoding.{unfit, numberIn, textIn, blankIn, Givens, encodeField, encodeFields, lineEnd, encodedLine, testText}
+use Rattle.writer.specs.Encoding.{unfit, numberIn, textIn, blankIn, Givens, encodeField, encodeFields, lineEnd, encodedLine}
 use Rattle.writer.specs.Entries.{digitsFor, kindOf, givenFor, lineFor}
 use Rattle.writer.specs.Promises.{entryOf}
 use Rattle.writer.specs.declared.Entry.{Entry}
@@ -100,13 +100,13 @@ group-again t h = by (same t (groupText Payments)) (same t (groupText Debits)) r
     by false true p q k = same-text 2 t (groupText Debits) h (of-eq _ q)
     by false false p q k = absurd k
 
-test-again : (t : List ℕ) → length t ≡ 1 → T (isTestCode t) → textIn 1 (testText (same t (84 ∷ []))) ≡ t
+test-again : (t : List ℕ) → length t ≡ 1 → T (isTestCode t) → textIn 1 (testText (same t (testText true))) ≡ t
 unfolding isTestCode
-test-again t h = by (same t (80 ∷ [])) (same t (84 ∷ [])) refl refl
+test-again t h = by (same t (testText false)) (same t (testText true)) refl refl
   where
-    by : (a b : Bool) → same t (80 ∷ []) ≡ a → same t (84 ∷ []) ≡ b → T (a || b) → textIn 1 (testText b) ≡ t
-    by a true p q k = same-text 1 t (84 ∷ []) h (of-eq _ q)
-    by true false p q k = same-text 1 t (80 ∷ []) h (of-eq _ p)
+    by : (a b : Bool) → same t (testText false) ≡ a → same t (testText true) ≡ b → T (a || b) → textIn 1 (testText b) ≡ t
+    by a true p q k = same-text 1 t (testText true) h (of-eq _ q)
+    by true false p q k = same-text 1 t (testText false) h (of-eq _ p)
     by false false p q k = absurd k
 
 one-type : (y z : TransactionType) → Of y ≡ Of z → y ≡ z
@@ -138,9 +138,6 @@ type-again t y h =
 one-entry : (a b : Entry) → some a ≡ some b → a ≡ b
 one-entry a b q = cc
 
-pub none≢some : (e : Entry) → none ≡ some e → ⊥
-none≢some e q = let z : _≡_ {A = ℕ} 0 1 = cc in omega arith
-
 written-as : (s : State) (t : List ℕ) (a : Entry) (x : Fields (kindOf a)) → Stand (layout (kindOf a)) (givenFor s t a) x → (e : Entry) → some a ≡ some e
     → code (kindOf a) ++ (writeFields (layout (kindOf a)) x ++ lineEnd) ≡ lineFor s e t
 unfolding lineFor encodedLine
@@ -162,7 +159,7 @@ item-again s x f e (Of y) p q =
         ),
       ),
     ) e q
-item-again s x f e NoType p q = absurd (none≢some e q)
+item-again s x f e NoType p q = absurd (none≢some q)
 
 again : (s : State) (k : Kind) (x : Fields k) → Fits (layout k) x → Holds (layout k) (testsFor (s .before) (s .batch) k x) → (e : Entry) → entryOf (recordFor k x) ≡ some e
     → code k ++ (writeFields (layout k) x ++ lineEnd) ≡ lineFor s e (textFor k x)
@@ -219,7 +216,7 @@ again s kinds.BatchHeaderC x f h e q =
     ) e q
 again s kinds.FixedDescription x f h e q = written-as s (padded (x .0)) FixedDescription x (text-in 32 (x .0) (f .0 .0) (omega arith), (blank-nothing 13, tt)) e q
 again s kinds.OrderingParty x f h e q =
-    written-as s (padded (partyName x)) (OrderingParty (nameCode x) (desiredDate x) (same (testCode x) (84 ∷ []))) x (
+    written-as s (padded (partyName x)) (OrderingParty (nameCode x) (desiredDate x) (same (testCode x) (testText true))) x (
       number-in 1 (nameCode x) (f .0),
       (
         number-in 6 (desiredDate x) (f .1 .0),
@@ -234,11 +231,11 @@ again s kinds.OrderingParty x f h e q =
     ) e q
 again s kinds.Transaction x f h e q = item-again s x f e (typeOf (type x)) refl q
 again s kinds.NamePayer x f h e q = written-as s (padded (x .0)) NamePayer x (text-in 35 (x .0) (f .0 .0) (omega arith), (blank-nothing 10, tt)) e q
-again s kinds.CityPayer x f h e q = absurd (none≢some e q)
+again s kinds.CityPayer x f h e q = absurd (none≢some q)
 again s kinds.PaymentReference x f h e q = written-as s (padded (x .0)) PaymentReference x (text-in 16 (x .0) (f .0 .0) (omega arith), (blank-nothing 29, tt)) e q
 again s kinds.Description x f h e q = written-as s (padded (x .0)) Description x (text-in 32 (x .0) (f .0 .0) (omega arith), (blank-nothing 13, tt)) e q
 again s kinds.NameBeneficiary x f h e q = written-as s (padded (x .0)) NameBeneficiary x (text-in 35 (x .0) (f .0 .0) (omega arith), (blank-nothing 10, tt)) e q
-again s kinds.CityBeneficiary x f h e q = absurd (none≢some e q)
+again s kinds.CityBeneficiary x f h e q = absurd (none≢some q)
 again s kinds.BatchTrailer x f h e q =
     written-as s noText BatchTrailer x (
       same-number 18 (s .batch .total) (totalAmount x) (f .0) (h .0 .1 .0),

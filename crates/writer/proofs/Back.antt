@@ -15,7 +15,7 @@ use Rattle.machine.proofs.Digits.{length-decimal, decimal-digits, value-decimal
 use Rattle.field.proofs.Putting.{put-front}
 use Rattle.format.specs.Fields.{Field, numeric, filled, optional, free, filler, width, Value, Values, widths, printable, leftJustified, wellFormed, readField, writeField, writeFields, Fits}
 use Rattle.format.specs.Records.{layout, code}
-use Rattle.format.specs.Rules.{groupText, groupOf, typeText, typeOf}
+use Rattle.format.specs.Rules.{testText, groupText, groupOf, typeText, typeOf}
 use Rattle.format.specs.declared.Group.{Group}
 use Rattle.format.specs.declared.Group.the-variants.{Payments, Debits}
 use Rattle.format.specs.declared.TransactionType.{TransactionType}
@@ -33,7 +33,7 @@ use Rattle.reading.specs.Step.{nextFor, stepAt}
 use Rattle.reading.specs.declared.State.{State}
 use Rattle.format.specs.Answers.{acceptance}
 use Rattle.reading.specs.declared.LineRead.{LineRead}
-use Rattle.writer.specs.Encoding.{unfit, numberIn, textIn, blankIn, Given, Givens, encodeField, encodeFields, lineEnd, encodedLine, testText}
+use Rattle.writer.specs.Encoding.{unfit, numberIn, textIn, blankIn, Given, Givens, encodeField, encodeFields, lineEnd, encodedLine}
 use Rattle.writer.specs.Entries.{digitsFor, kindOf, givenFor, lineFor}
 use Rattle.writer.specs.Promises.{recordOf, isTextFit, isUnfit}
 use Rattle.writer.specs.declared.Entry.{Entry}
@@ -183,7 +183,7 @@ unfolding same pick
 group-of Payments = refl
 group-of Debits = refl
 
-test-of : (b : Bool) → same (take 1 (testText b)) (84 ∷ []) ≡ b
+test-of : (b : Bool) → same (take 1 (testText b)) (testText true) ≡ b
 unfolding same
 test-of true = refl
 test-of false = refl

@@ -16,7 +16,7 @@ use Rattle.machine.proofs.Digits.{length-decimal, decimal-digits, decimal-last}
 use Rattle.field.proofs.Putting.{put-fits}
 use Rattle.format.specs.Fields.{filled, filler}
 use Rattle.format.specs.Records.{layout, code}
-use Rattle.format.specs.Rules.{CLIEOP03, EUR, groupText, typeText}
+use Rattle.format.specs.Rules.{CLIEOP03, EUR, testText, groupText, typeText}
 use Rattle.format.specs.declared.Group.{Group}
 use Rattle.format.specs.declared.Group.the-variants.{Payments, Debits}
 use Rattle.format.specs.declared.TransactionType.{TransactionType}
@@ -26,7 +26,7 @@ use Rattle.format.specs.declared.Kind.the-variants as kinds
 use Rattle.format.proofs.Link.{line-widths}
 use Rattle.record.specs.declared.Transaction.{Transaction}
 use Rattle.reading.specs.declared.State.{State}
-use Rattle.writer.specs.Encoding.{unfit, numberIn, textIn, blankIn, lineEnd, encodedLine, testText}
+use Rattle.writer.specs.Encoding.{unfit, numberIn, textIn, blankIn, lineEnd, encodedLine}
 use Rattle.writer.specs.Entries.{digitsFor, fileHeaderGiven, orderingPartyGiven, itemGiven, batchTrailerGiven, kindOf, givenFor, lineFor}
 use Rattle.writer.specs.Inner.{headerStart, batchHeaderLine}
 use Rattle.writer.specs.declared.Entry.{Entry}

@@ -10,6 +10,7 @@ use lib.ListN.{length, take, drop}
 use lib.Seq.{take-at}
 use lib.Dec.{T, eqb, leb}
 use Rattle.machine.specs.Lists.{pick}
+use Rattle.machine.proofs.Base.{none≢some}
 use Rattle.format.specs.Answers.{refusal}
 use Rattle.format.specs.Cutting.{nextLine}
 use Rattle.reading.specs.Step.{stepAt}
@@ -24,7 +25,7 @@ use Rattle.writer.proofs.Pasting.{answer-via, room-via}
 use Rattle.reading.proofs.Slices.{step-own}
 use Rattle.writer.proofs.Accepting.{accepts, step-on}
 use Rattle.writer.proofs.Back.{line-52, read-back}
-use Rattle.writer.proofs.Again.{none≢some, written-again}
+use Rattle.writer.proofs.Again.{written-again}
 
 -- ## Accepted, with room
 
@@ -51,7 +52,7 @@ filled r line out a b = rw (a, b)
 
 some-bytes : (s : State) (xs : List ℕ) (e : Entry) → entryOf (stepAt s xs .read) ≡ some e → 0 < length xs
 unfolding stepAt
-some-bytes s [] e q = absurd (none≢some e q)
+some-bytes s [] e q = absurd (none≢some q)
 some-bytes s (x ∷ xs) e q = omega arith
 
 -- ## The two promises

@@ -12,7 +12,8 @@ use lib.Dec.{eqb, ltb}
 use Rattle.machine.specs.Lists.{pick, all, isSpace, putIn}
 use Rattle.machine.specs.Digits.{pow10, decimal}
 use Rattle.machine.proofs.Digits.{length-decimal, decimal-last}
-use Rattle.writer.specs.Encoding.{unfit, numberIn, textIn, testText}
+use Rattle.format.specs.Rules.{testText}
+use Rattle.writer.specs.Encoding.{unfit, numberIn, textIn}
 
 -- ## Whether a number has so many digits
 

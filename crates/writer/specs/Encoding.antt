@@ -55,8 +55,3 @@ lineEnd = endBytes crlf
 -- a line of 50 characters with its end
 unfoldable pub encodedLine : List ℕ → (fs : List Field) → Givens fs → List ℕ
 encodedLine code fs x = code ++ (encodeFields fs x ++ lineEnd)
-
--- test code P or T
-abbrev pub testText : Bool → List ℕ
-testText true = 84 ∷ []
-testText false = 80 ∷ []

@@ -6,13 +6,13 @@ use lib.Dec.{ltb}
 use Rattle.machine.specs.Lists.{pick}
 use Rattle.machine.specs.Digits.{pow10, decimal}
 use Rattle.format.specs.Records.{layout, code}
-use Rattle.format.specs.Rules.{CLIEOP03, EUR, groupText, typeText}
+use Rattle.format.specs.Rules.{CLIEOP03, EUR, testText, groupText, typeText}
 use Rattle.format.specs.declared.Kind.{Kind}
 use Rattle.format.specs.declared.Kind.the-variants as kinds
 use Rattle.format.specs.declared.Group.{Group}
 use Rattle.record.specs.declared.Transaction.{Transaction}
 use Rattle.reading.specs.declared.State.{State}
-use Rattle.writer.specs.Encoding.{Givens, encodedLine, testText}
+use Rattle.writer.specs.Encoding.{Givens, encodedLine}
 use Rattle.writer.specs.declared.Entry.{Entry}
 use Rattle.writer.specs.declared.Entry.the-variants.{FileHeader, BatchHeader, FixedDescription, OrderingParty, NamePayer, PaymentReference, Description, NameBeneficiary, BatchTrailer, FileTrailer}
 use Rattle.writer.specs.declared.Entry.the-variants as entry

@@ -12,35 +12,35 @@ abbrev Puts : Type 0
 Puts = List Rec → List Rec
 
 -- what f puts before some records it puts before those and more
-abbrev pub Before : Puts → Type 0
-Before f = (k j : List Rec) → f (k ++ j) ≡ f k ++ j
+abbrev pub Front : Puts → Type 0
+Front f = (k j : List Rec) → f (k ++ j) ≡ f k ++ j
 
-then : (f g : Puts) → Before f → Before g → Before (λ k. f (g k))
+then : (f g : Puts) → Front f → Front g → Front (λ k. f (g k))
 then f g p q k j = ap f (q k j) ∙ p (g k) j
 
-fixed-before : (ts : List (List ℕ)) → Before (fixedRecs ts)
+fixed-before : (ts : List (List ℕ)) → Front (fixedRecs ts)
 fixed-before [] k j = refl
 fixed-before (t ∷ ts) k j = rw (fixed-before ts k j)
 
-reference-before : (o : Option (List ℕ)) → Before (referenceRecs o)
+reference-before : (o : Option (List ℕ)) → Front (referenceRecs o)
 reference-before none k j = refl
 reference-before (some t) k j = refl
 
-description-before : (ts : List (List ℕ)) → Before (descriptionRecs ts)
+description-before : (ts : List (List ℕ)) → Front (descriptionRecs ts)
 description-before [] k j = refl
 description-before (t ∷ ts) k j = rw (description-before ts k j)
 
-city-before : (g : Group) (o : Option (List ℕ)) → Before (cityRecs g o)
+city-before : (g : Group) (o : Option (List ℕ)) → Front (cityRecs g o)
 city-before g none k j = refl
 city-before Payments (some t) k j = refl
 city-before Debits (some t) k j = refl
 
-name-before : (g : Group) (o : Option Name) → Before (nameRecs g o)
+name-before : (g : Group) (o : Option Name) → Front (nameRecs g o)
 name-before g none k j = refl
 name-before Payments (some n) k j = rw (city-before Payments (n .city) k j)
 name-before Debits (some n) k j = rw (city-before Debits (n .city) k j)
 
-item-before : (g : Group) (i : Item) → Before (itemRecs g i)
+item-before : (g : Group) (i : Item) → Front (itemRecs g i)
 item-before Payments i =
     let d = nameRecs Payments (i .name) in
     then (referenceRecs (i .reference)) (λ k. descriptionRecs (i .descriptions) (d k)) (reference-before (i .reference))
@@ -50,7 +50,7 @@ item-before Debits i =
     then (nameRecs Debits (i .name)) (λ k. referenceRecs (i .reference) (d k)) (name-before Debits (i .name))
     (then (referenceRecs (i .reference)) d (reference-before (i .reference)) (description-before (i .descriptions)))
 
-pub items-before : (g : Group) (is : List Item) → Before (itemsRecs g is)
+pub items-before : (g : Group) (is : List Item) → Front (itemsRecs g is)
 items-before g [] k j = refl
 items-before g (i ∷ is) k j = ap {B = List Rec} (λ l. transactionRec i ∷ l) (then (itemRecs g i) (itemsRecs g is) (item-before g i) (items-before g is) k j)
 
@@ -62,7 +62,7 @@ batchRecs g b k =
     (orderingPartyRec (b .nameCode) (b .desired) (b .party) (b .testCode)
     ∷ itemsRecs g (b .items) (batchTrailerRec (totalOf (b .items)) (tenDigits (accountsOf (b .items))) (length (b .items)) ∷ k))
 
-batch-before : (g : Group) (b : Batch) → Before (batchRecs g b)
+batch-before : (g : Group) (b : Batch) → Front (batchRecs g b)
 batch-before g b k j =
     let header = batchHeaderRec g (b .account) (b .sequence) (b .identification) in
     let party = orderingPartyRec (b .nameCode) (b .desired) (b .party) (b .testCode) in
@@ -71,7 +71,7 @@ batch-before g b k j =
     (ap {B = List Rec} (λ l. fixedRecs (b .fixed) (party ∷ l)) (items-before g (b .items) (trailer ∷ k) j)
     ∙ fixed-before (b .fixed) (party ∷ itemsRecs g (b .items) (trailer ∷ k)) j)
 
-pub batches-before : (g : Group) (bs : List Batch) → Before (batchesRecs g bs)
+pub batches-before : (g : Group) (bs : List Batch) → Front (batchesRecs g bs)
 batches-before g [] k j = refl
 batches-before g (b ∷ bs) k j = then (batchRecs g b) (batchesRecs g bs) (batch-before g b) (batches-before g bs) k j
 
