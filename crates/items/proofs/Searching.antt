@@ -5,14 +5,17 @@ use mathlib.Core.List.{List}
 use mathlib.Core.Bool.{Bool, true, false}
 use borrow.Author.Needs.{needs}
 use borrow.Author.Tests.{ne-eqb}
-use lib.ListN.{length, drop}
+use lib.ListN.{length, take, drop}
 use lib.Dec.{eqb}
 use Rattle.machine.specs.Lists.{pick}
 use Rattle.format.specs.Cutting.{nextLine, linesIn}
 use Rattle.format.proofs.Cutting.{lines-at, lines-none}
+use Rattle.format.specs.declared.Kind.{Kind}
+use Rattle.record.specs.Read.{textPart}
+use Rattle.record.specs.declared.read.Part.{Part}
 use Rattle.record.specs.declared.TransactionFields.{TransactionFields}
 use Rattle.descriptions.specs.declared.Descriptions.{Descriptions}
-use Rattle.items.specs.Search.{filledTo, withItem, withFixed, withOwn, referenceIn, withReference, nameIn, withName, searching, finding, opened, fixed, described, referred, named, afterLine, afterLines}
+use Rattle.items.specs.Search.{filledTo, withItem, withFixed, withOwn, referenceIn, withReference, nameIn, withName, textOf, searching, finding, opened, fixed, described, referred, named, afterLine, afterLines}
 use Rattle.items.specs.declared.ItemFields.{ItemFields}
 use Rattle.items.specs.declared.Found.{Found}
 use Rattle.items.specs.declared.Search.{Search}
@@ -30,6 +33,9 @@ reference-made f u e = rw e
 
 pub name-made : {t : List ℕ} (f : Found) (u : List ℕ) → t ≡ filledTo 24 u → finds (f .fixed) (f .own) (f .referred) (nameIn (f .fields) t) ≡ withName f u
 name-made f u e = rw e
+
+pub text-via : {q : Part} {p : List ℕ} (k : Kind) (line : List ℕ) → q ≡ textPart k → p ≡ take (q .width) (drop (q .at) line) → p ≡ textOf k line
+text-via k line e h = h ∙ ap (λ (q : Part). take (q .width) (drop (q .at) line)) e
 
 pub ruleset founds = (found-made, reference-made, name-made, needs)
 

@@ -2,13 +2,14 @@
 use Prim.Native.Nat.{ℕ, _-_}
 use mathlib.Core.List.{List, [], _∷_, _++_}
 use mathlib.Core.Bool.{Bool, true, false}
-use lib.ListN.{take}
+use lib.ListN.{take, drop}
 use lib.Dec.{eqb}
 use Rattle.machine.specs.Lists.{pick, spaces}
+use Rattle.format.specs.declared.Kind.{Kind}
 use Rattle.format.specs.declared.Kind.the-variants.{FixedDescription, Transaction, NamePayer, PaymentReference, Description}
 use Rattle.format.specs.declared.TypeRead.the-variants.{NoType}
 use Rattle.record.specs.Kinds.{begins, isName, isHeader}
-use Rattle.record.specs.Read.{transactionFor, valuesOf}
+use Rattle.record.specs.Read.{transactionFor, textPart, valuesOf}
 use Rattle.record.specs.declared.TransactionFields.{TransactionFields}
 use Rattle.descriptions.specs.Texts.{noTexts, withText}
 use Rattle.items.specs.declared.ItemFields.{ItemFields}
@@ -55,6 +56,10 @@ nameIn x t = record { kind = x .kind; amount = x .amount; payer = x .payer; bene
 -- 'the name's first 24 characters'
 abbrev pub withName : Found → List ℕ → Found
 withName f t = record { fixed = f .fixed; own = f .own; referred = f .referred; fields = nameIn (f .fields) (filledTo 24 t) }
+
+-- the text of a line of that kind
+abbrev pub textOf : Kind → List ℕ → List ℕ
+textOf k line = take (textPart k .width) (drop (textPart k .at) line)
 
 -- ## The search
 
