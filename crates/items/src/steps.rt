@@ -43,7 +43,7 @@ impl Search {
         Search {
             batches: batch,
             items: item,
-            within: false,
+            inside: false,
             here: false,
             found,
         }
@@ -56,7 +56,7 @@ impl Search {
         let mut search = self;
         let left = search.batches;
         search.batches = less_one(left);
-        search.within = left == 1;
+        search.inside = left == 1;
         search.here = false;
         search
     }
@@ -67,7 +67,7 @@ impl Search {
     {
         let mut search = self;
         let left = search.items;
-        if search.within {
+        if search.inside {
             search.items = less_one(left);
             search.here = left == 1;
             if left == 1 {
@@ -82,7 +82,7 @@ impl Search {
         ensures { λ r. ⌜ r ≡ fixed self (textOf kinds.FixedDescription (now (line .entry))) ⌝ }
     {
         let mut search = self;
-        if search.within {
+        if search.inside {
             let found = search.found;
             search.found = found.with_fixed(text_at(line, Kind::FixedDescription));
         }
