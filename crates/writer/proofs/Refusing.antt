@@ -11,7 +11,7 @@ use lib.Dec.{T, eqb}
 use Rattle.machine.specs.Lists.{pick}
 use Rattle.machine.proofs.Base.{of-eq, true≢false}
 use Rattle.format.specs.Fields.{Field, numeric, filled, optional, free, filler, width, widths, wellFormed}
-use Rattle.format.specs.Records.{layout, code}
+use Rattle.format.specs.Records.{layout}
 use Rattle.format.specs.Tests.{Test, Tests}
 use Rattle.format.specs.Cutting.{cutOf}
 use Rattle.format.proofs.Link.{line-widths}
