@@ -15,7 +15,7 @@ use Rattle.machine.specs.Digits.{digitsOnto, decimal, valueAfter}
 use Rattle.format.specs.Answers.{refusal, acceptance}
 use Rattle.format.specs.declared.Answer.{Answer}
 use Rattle.format.specs.Cutting.{linesIn}
-use Rattle.format.specs.Rules.{typeOf}
+use Rattle.format.specs.Rules.{typeOf, isType}
 use Rattle.format.specs.declared.TransactionType.{TransactionType}
 use Rattle.format.specs.declared.TransactionType.the-variants.{UncheckedCreditor, UncheckedSalary, Creditor, Salary, Debit, UncheckedDebit}
 use Rattle.format.specs.declared.TypeRead.{TypeRead}
@@ -24,11 +24,11 @@ use Rattle.field.proofs.Putting.{put-fits, length-pasted, pasted-both}
 use Rattle.reading.specs.Check.{checkOf}
 use Rattle.record.proofs.Typing.{of-case}
 use Rattle.items.specs.Search.{noFields, started, afterLines}
-use Rattle.items.specs.Answering.{answered, isFound, answeredBy, roomBy, itemOf, roomAfter}
+use Rattle.items.specs.Answering.{answered, answeredBy, roomBy, itemOf, roomAfter}
 use Rattle.items.specs.Promises.{Promised, ItemAt, handedOut, roomWith, textsFor, itemAt}
 use Rattle.items.specs.declared.ItemFields.{ItemFields}
 use Rattle.items.specs.declared.ItemRead.{ItemRead}
-use Rattle.clieop_c.specs.Returned.{packed, unpacked, numberOf, typeNumber, itemAsked, numbersWith, textsWith, itemNumbers, textsBy, itemTexts, fieldsWith, textsFound, Held, fieldsIn, itemBy, itemFound, describedRoom, ItemPromised}
+use Rattle.clieop_c.specs.Returned.{packed, unpacked, numberOf, typeNumber, itemAsked, numbersWith, textsWith, itemNumbers, textsBy, itemTexts, fieldsWith, fieldsBack, Held, fieldsIn, itemBy, itemFound, describedRoom, ItemPromised}
 use Rattle.clieop_c.proofs.Packing.{check-line}
 
 -- ## The type
@@ -46,7 +46,7 @@ number-read Salary = refl
 number-read Debit = refl
 number-read UncheckedDebit = refl
 
-type-read : (k : TypeRead) → isFound k ≡ true → typeOf (decimal 4 (typeNumber k)) ≡ k
+type-read : (k : TypeRead) → isType k ≡ true → typeOf (decimal 4 (typeNumber k)) ≡ k
 type-read (Of y) h = number-read y
 type-read NoType h = absurd (let z : _≡_ {A = ℕ} 0 1 = cc in omega arith)
 
@@ -99,8 +99,8 @@ module _ {t u : List ℕ} (f : ItemFields) (texts : List ℕ) (h : length (f .re
   name-put : take 24 (drop 144 u) ≡ f .name
   name-put = ap (take 24) (sym (drop-drop 16 128 u) ∙ ap (drop 16) behind ∙ drop-at (f .reference) _ 16 h) ∙ take-at (f .name) _ 24 k
 
-  pub put-found : textsFound f u ≡ f
-  unfolding textsFound fieldsWith
+  pub put-found : fieldsBack f u ≡ f
+  unfolding fieldsBack fieldsWith
   put-found =
       let x = reference-put in
       let y = name-put in
@@ -120,9 +120,9 @@ texts-first f t l =
 -- a refusal without fields, or an item with a type
 data Shape (line : ℕ) : ItemRead → Type 0 where
   refusing : (number column : ℕ) → (number ≡ 0 → ⊥) → Shape line (answered (refusal number line column) noFields)
-  handing : (f : ItemFields) → isFound (f .kind) ≡ true → Shape line (answered (acceptance line) f)
+  handing : (f : ItemFields) → isType (f .kind) ≡ true → Shape line (answered (acceptance line) f)
 
-shape-by : (a : Answer) (f : ItemFields) (p q w : Bool) → eqb (a .number) 0 ≡ p → isFound (f .kind) ≡ q
+shape-by : (a : Answer) (f : ItemFields) (p q w : Bool) → eqb (a .number) 0 ≡ p → isType (f .kind) ≡ q
     → Shape (a .line) (pick p (pick q (pick w (answered (acceptance (a .line)) f) (answered (refusal 12 (a .line) 0) noFields)) (answered (refusal 13 (a .line) 0) noFields)) (answered a noFields))
 unfolding pick
 shape-by a f true true true e h = handing f h
@@ -134,19 +134,19 @@ shape : (file : List ℕ) (batch item room : ℕ) → Shape (checkOf file .line)
 unfolding itemOf answeredBy
 shape file batch item room =
     let f = afterLines (started batch item) (linesIn file) .found .fields in
-    shape-by (checkOf file) f (eqb (checkOf file .number) 0) (isFound (f .kind)) (leb 128 room) refl refl
+    shape-by (checkOf file) f (eqb (checkOf file .number) 0) (isType (f .kind)) (leb 128 room) refl refl
 
 line-shape : {line : ℕ} {r : ItemRead} → Shape line r → r .answer .line ≡ line
 line-shape (refusing number column z) = refl
 line-shape (handing f h) = refl
 
 found-shape : {line : ℕ} {r : ItemRead} (before texts : List ℕ) → Shape line r → Held r texts → itemBy (r .answer) (itemNumbers r before) texts ≡ r
-unfolding itemBy pick itemNumbers numbersWith fieldsIn textsFound Held
+unfolding itemBy pick itemNumbers numbersWith fieldsIn fieldsBack Held
 found-shape before texts (refusing number column z) h = rw (ne-eqb number 0 z) refl
 found-shape {line} before texts (handing f g) h =
     ap (answered (acceptance line)) (ap (λ x. fieldsWith x (f .amount) (f .payer) (f .beneficiary) texts) (type-read (f .kind) g) ∙ h refl)
 
-pub held-handed : (r : ItemRead) (texts : List ℕ) → textsFound (r .fields) texts ≡ r .fields → Held r texts
+pub held-handed : (r : ItemRead) (texts : List ℕ) → fieldsBack (r .fields) texts ≡ r .fields → Held r texts
 unfolding Held
 held-handed r texts e z = e
 
@@ -189,9 +189,9 @@ lacking a q false e w = eqb-false (a .number) 0 e w
 
 lacking-refused : (file : List ℕ) (batch item : ℕ) → itemOf file batch item 0 .answer .number ≡ 0 → ⊥
 unfolding itemOf answeredBy pick
-lacking-refused file batch item = lacking (checkOf file) (isFound (afterLines (started batch item) (linesIn file) .found .fields .kind)) (eqb (checkOf file .number) 0) refl
+lacking-refused file batch item = lacking (checkOf file) (isType (afterLines (started batch item) (linesIn file) .found .fields .kind)) (eqb (checkOf file .number) 0) refl
 
-module _ {r : ItemRead} (file : List ℕ) (batch item places : ℕ) (e : r ≡ itemOf file batch item 0) where
+module _ {r : ItemRead} (file : List ℕ) (batch item count : ℕ) (e : r ≡ itemOf file batch item 0) where
   lacking-answer : r .answer .number ≡ 0 → ⊥
   lacking-answer w = lacking-refused file batch item (ap (λ (y : ItemRead). y .answer .number) (sym e) ∙ w)
 
@@ -202,37 +202,37 @@ module _ {r : ItemRead} (file : List ℕ) (batch item places : ℕ) (e : r ≡ i
   pub lacking-held : (texts : List ℕ) → Held r texts
   lacking-held texts = held-refused r texts lacking-answer
 
-  pub asked-unplaced : (room : ℕ) → places < 4 → r ≡ itemAsked file batch item room places
+  pub asked-few : (room : ℕ) → count < 4 → r ≡ itemAsked file batch item room count
   unfolding itemAsked pick
-  asked-unplaced room h = e ∙ rw (lt-leb 4 places h) refl
+  asked-few room h = e ∙ rw (lt-leb 4 count h) refl
 
-  pub asked-unroomed : (room : ℕ) → 4 ≤ places → room < 168 → r ≡ itemAsked file batch item room places
+  pub asked-unroomed : (room : ℕ) → 4 ≤ count → room < 168 → r ≡ itemAsked file batch item room count
   unfolding itemAsked pick
-  asked-unroomed room h k = e ∙ rw (le-leb 4 places h, lt-leb 168 room k) refl
+  asked-unroomed room h k = e ∙ rw (le-leb 4 count h, lt-leb 168 room k) refl
 
-  untexted : (texts : List ℕ) → r ≡ itemAsked file batch item (length texts) places → texts ≡ itemTexts file batch item texts places
+  untexted : (texts : List ℕ) → r ≡ itemAsked file batch item (length texts) count → texts ≡ itemTexts file batch item texts count
   unfolding itemTexts pick
   untexted texts g =
-      let z : itemAsked file batch item (length texts) places .answer .number ≡ 0 → ⊥ = λ w. lacking-answer (ap (λ (y : ItemRead). y .answer .number) g ∙ w) in
+      let z : itemAsked file batch item (length texts) count .answer .number ≡ 0 → ⊥ = λ w. lacking-answer (ap (λ (y : ItemRead). y .answer .number) g ∙ w) in
       rw (ne-eqb _ _ z) refl
 
-  pub texts-unplaced : (texts : List ℕ) → places < 4 → texts ≡ itemTexts file batch item texts places
-  texts-unplaced texts h = untexted texts (asked-unplaced (length texts) h)
+  pub texts-few : (texts : List ℕ) → count < 4 → texts ≡ itemTexts file batch item texts count
+  texts-few texts h = untexted texts (asked-few (length texts) h)
 
-  pub texts-unroomed : (texts : List ℕ) → 4 ≤ places → length texts < 168 → texts ≡ itemTexts file batch item texts places
+  pub texts-unroomed : (texts : List ℕ) → 4 ≤ count → length texts < 168 → texts ≡ itemTexts file batch item texts count
   texts-unroomed texts h k = untexted texts (asked-unroomed (length texts) h k)
 
-module _ {r : ItemRead} (file : List ℕ) (batch item : ℕ) (texts : List ℕ) (places : ℕ) (p : Promised file batch item [] r []) where
-  lacking-promised : describedRoom texts places ≡ [] → ItemPromised file batch item texts r texts places
+module _ {r : ItemRead} (file : List ℕ) (batch item : ℕ) (texts : List ℕ) (count : ℕ) (p : Promised file batch item [] r []) where
+  lacking-promised : describedRoom texts count ≡ [] → ItemPromised file batch item texts r texts count
   lacking-promised d = subst (λ x. Promised file batch item x r x) (sym d) p
 
-  pub unplaced-promised : places < 4 → ItemPromised file batch item texts r texts places
+  pub few-promised : count < 4 → ItemPromised file batch item texts r texts count
   unfolding describedRoom pick
-  unplaced-promised h = lacking-promised (rw (lt-leb 4 places h) refl)
+  few-promised h = lacking-promised (rw (lt-leb 4 count h) refl)
 
-  pub unroomed-promised : 4 ≤ places → length texts < 168 → ItemPromised file batch item texts r texts places
+  pub unroomed-promised : 4 ≤ count → length texts < 168 → ItemPromised file batch item texts r texts count
   unfolding describedRoom pick
-  unroomed-promised h k = lacking-promised (rw (le-leb 4 places h, lt-leb 168 (length texts) k) refl)
+  unroomed-promised h k = lacking-promised (rw (le-leb 4 count h, lt-leb 168 (length texts) k) refl)
 
 -- ## With room
 
@@ -246,7 +246,7 @@ kept-by false q w x y i j k l z h = refl
 refused-kept : (file : List ℕ) (batch item : ℕ) (out : List ℕ) → (itemOf file batch item (length out) .answer .number ≡ 0 → ⊥) → roomAfter file batch item out ≡ out
 unfolding itemOf answeredBy roomAfter roomBy
 refused-kept file batch item out h =
-    kept-by (eqb (checkOf file .number) 0) (isFound (afterLines (started batch item) (linesIn file) .found .fields .kind)) (leb 128 (length out)) _ out _ _ _ _ (λ e. refl) h
+    kept-by (eqb (checkOf file .number) 0) (isType (afterLines (started batch item) (linesIn file) .found .fields .kind)) (leb 128 (length out)) _ out _ _ _ _ (λ e. refl) h
 
 pub numbers-kept : (r : ItemRead) (numbers : List ℕ) → (r .answer .number ≡ 0 → ⊥) → numbers ≡ itemNumbers r numbers
 unfolding itemNumbers pick
@@ -256,20 +256,20 @@ pub numbers-handed : {o : List ℕ} (r : ItemRead) (numbers : List ℕ) → r .a
 unfolding itemNumbers pick
 numbers-handed r numbers z e = e ∙ rw (eq-eqb _ _ z) refl
 
-module _ {r : ItemRead} {places : ℕ} (file : List ℕ) (batch item : ℕ) (texts : List ℕ) (h : 4 ≤ places) (k : 168 ≤ length texts) (e : r ≡ itemOf file batch item (length texts)) where
-  pub asked : r ≡ itemAsked file batch item (length texts) places
+module _ {r : ItemRead} {count : ℕ} (file : List ℕ) (batch item : ℕ) (texts : List ℕ) (h : 4 ≤ count) (k : 168 ≤ length texts) (e : r ≡ itemOf file batch item (length texts)) where
+  pub asked : r ≡ itemAsked file batch item (length texts) count
   unfolding itemAsked pick
-  asked = e ∙ rw (le-leb 4 places h, le-leb 168 (length texts) k) refl
+  asked = e ∙ rw (le-leb 4 count h, le-leb 168 (length texts) k) refl
 
-  by-asked : (t : List ℕ) → textsBy r texts t ≡ textsBy (itemAsked file batch item (length texts) places) texts t
+  by-asked : (t : List ℕ) → textsBy r texts t ≡ textsBy (itemAsked file batch item (length texts) count) texts t
   by-asked t = ap (λ y. textsBy y texts t) asked
 
   module _ {t : List ℕ} (f : t ≡ roomAfter file batch item texts) where
-    pub texts-handed : {u : List ℕ} → r .answer .number ≡ 0 → u ≡ textsWith (r .fields) t → u ≡ itemTexts file batch item texts places
+    pub texts-handed : {u : List ℕ} → r .answer .number ≡ 0 → u ≡ textsWith (r .fields) t → u ≡ itemTexts file batch item texts count
     unfolding itemTexts pick
     texts-handed {u} z g = g ∙ ap (textsWith (r .fields)) f ∙ rw (eq-eqb _ _ z) refl ∙ by-asked (roomAfter file batch item texts)
 
-    pub texts-refused : (r .answer .number ≡ 0 → ⊥) → t ≡ itemTexts file batch item texts places
+    pub texts-refused : (r .answer .number ≡ 0 → ⊥) → t ≡ itemTexts file batch item texts count
     unfolding itemTexts pick
     texts-refused z =
         f ∙ refused-kept file batch item texts (λ w. z (ap (λ (y : ItemRead). y .answer .number) e ∙ w)) ∙ rw (ne-eqb _ _ z) refl ∙ by-asked (roomAfter file batch item texts)
@@ -308,34 +308,34 @@ module _ (out : List ℕ) (l : 128 ≤ length out) where
         untouched = λ h. ap (take 128) (p .untouched h);
       }
 
-room-all : (x : List ℕ) (places : ℕ) → 4 ≤ places → 168 ≤ length x → describedRoom x places ≡ take 128 x
+room-all : (x : List ℕ) (count : ℕ) → 4 ≤ count → 168 ≤ length x → describedRoom x count ≡ take 128 x
 unfolding describedRoom pick
-room-all x places h l = rw (le-leb 4 places h, le-leb 168 (length x) l) refl
+room-all x count h l = rw (le-leb 4 count h, le-leb 168 (length x) l) refl
 
-module _ {r : ItemRead} {t : List ℕ} (file : List ℕ) (batch item : ℕ) (texts : List ℕ) (places : ℕ) (h : 4 ≤ places) (l : 168 ≤ length texts) (k : length t ≡ length texts) (p : Promised file batch item texts r t) where
-  first-asked : (o : List ℕ) → length o ≡ length texts → take 128 o ≡ take 128 t → ItemPromised file batch item texts r o places
+module _ {r : ItemRead} {t : List ℕ} (file : List ℕ) (batch item : ℕ) (texts : List ℕ) (count : ℕ) (h : 4 ≤ count) (l : 168 ≤ length texts) (k : length t ≡ length texts) (p : Promised file batch item texts r t) where
+  first-asked : (o : List ℕ) → length o ≡ length texts → take 128 o ≡ take 128 t → ItemPromised file batch item texts r o count
   first-asked o n d =
-      subst (λ x. Promised file batch item x r (describedRoom o places)) (sym (room-all texts places h l))
-      (subst (λ x. Promised file batch item (take 128 texts) r x) (sym (room-all o places h (omega (arith, l, n)) ∙ d))
+      subst (λ x. Promised file batch item x r (describedRoom o count)) (sym (room-all texts count h l))
+      (subst (λ x. Promised file batch item (take 128 texts) r x) (sym (room-all o count h (omega (arith, l, n)) ∙ d))
       (first-promised texts (omega arith) k p))
 
-  pub promised-refused : ItemPromised file batch item texts r t places
+  pub promised-refused : ItemPromised file batch item texts r t count
   promised-refused = first-asked t k refl
 
-  pub promised-handed : (u : List ℕ) → length u ≡ length t → u ≡ textsWith (r .fields) t → ItemPromised file batch item texts r u places
+  pub promised-handed : (u : List ℕ) → length u ≡ length t → u ≡ textsWith (r .fields) t → ItemPromised file batch item texts r u count
   promised-handed u n f = first-asked u (n ∙ k) (ap (take 128) f ∙ texts-first (r .fields) t (omega (arith, k)))
 
 -- ## The whole
 
-module _ {r : ItemRead} (file : List ℕ) (batch item room places : ℕ) (e : r ≡ itemAsked file batch item room places) where
+module _ {r : ItemRead} (file : List ℕ) (batch item room count : ℕ) (e : r ≡ itemAsked file batch item room count) where
   pub whole-line : r .answer .line ≤ 6999369996
   unfolding itemAsked
   whole-line = subst (λ n. n ≤ 6999369996) (sym (ap (λ (y : ItemRead). y .answer .line) e ∙ line-shape (shape file batch item _))) (check-line file)
 
-  pub whole-number : {n : ℕ} → n ≡ packed (r .answer) → n ≡ packed (itemAsked file batch item room places .answer)
+  pub whole-number : {n : ℕ} → n ≡ packed (r .answer) → n ≡ packed (itemAsked file batch item room count .answer)
   whole-number h = h ∙ ap (λ (y : ItemRead). packed (y .answer)) e
 
-  pub whole-numbers : {o : List ℕ} (numbers : List ℕ) → o ≡ itemNumbers r numbers → o ≡ itemNumbers (itemAsked file batch item room places) numbers
+  pub whole-numbers : {o : List ℕ} (numbers : List ℕ) → o ≡ itemNumbers r numbers → o ≡ itemNumbers (itemAsked file batch item room count) numbers
   whole-numbers numbers h = h ∙ ap (λ y. itemNumbers y numbers) e
 
   module _ (n : ℕ) (numbers before texts : List ℕ) (u : unpacked n ≡ r .answer) (h : numbers ≡ itemNumbers r before) (t : Held r texts) where
@@ -343,8 +343,8 @@ module _ {r : ItemRead} (file : List ℕ) (batch item room places : ℕ) (e : r 
     unfolding itemAsked
     own = ap₂ (λ a x. itemBy a x texts) u h ∙ found-shape before texts (subst (Shape (checkOf file .line)) (sym e) (shape file batch item _)) t
 
-    pub whole-found : itemFound n numbers texts ≡ itemAsked file batch item room places
+    pub whole-found : itemFound n numbers texts ≡ itemAsked file batch item room count
     whole-found = own ∙ e
 
-    pub whole-promised : (lent : List ℕ) → ItemPromised file batch item lent r texts places → ItemPromised file batch item lent (itemFound n numbers texts) texts places
-    whole-promised lent p = subst (λ y. ItemPromised file batch item lent y texts places) (sym own) p
+    pub whole-promised : (lent : List ℕ) → ItemPromised file batch item lent r texts count → ItemPromised file batch item lent (itemFound n numbers texts) texts count
+    whole-promised lent p = subst (λ y. ItemPromised file batch item lent y texts count) (sym own) p

@@ -75,5 +75,3 @@ module _ {w : Rewritten} (file : List ℕ) (room : ℕ) (e : w ≡ rewrittenOf f
 
       pub again-promised : (out : List ℕ) → Promised file w out → Promised file (rewriteFound r n) out
       again-promised out p = subst (λ y. Promised file y out) (e ∙ sym again-found) p
-
-pub ruleset agains = (again-line, again-number, again-written, again-found, again-promised, needs)

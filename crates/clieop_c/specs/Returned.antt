@@ -6,7 +6,7 @@ use lib.ListN.{length, getD, take, drop}
 use lib.Dec.{leb, eqb}
 use Rattle.machine.specs.Lists.{pick, pasted}
 use Rattle.machine.specs.Digits.{valueOf, decimal}
-use Rattle.format.specs.Answers.{accepted}
+use Rattle.format.specs.Answers.{accepted, refusal}
 use Rattle.format.specs.declared.Answer.{Answer}
 use Rattle.format.specs.Rules.{typeText, typeOf}
 use Rattle.format.specs.declared.TransactionType.{TransactionType}
@@ -28,7 +28,7 @@ packed a = a .number + 256 * a .column + 65536 * a .line
 
 -- how a caller reads it: CLIEOP_ANSWER, CLIEOP_LINE and CLIEOP_COLUMN
 unfoldable pub unpacked : ℕ → Answer
-unpacked r = record { number = r % 256; line = r / 65536; column = r / 256 % 256 }
+unpacked r = refusal (r % 256) (r / 65536) (r / 256 % 256)
 
 -- ## A file written again
 
@@ -55,7 +55,7 @@ typeNumber NoType = 0
 
 -- the answer to one who asks for an item; with room for its texts or its numbers lacking, that of one who has no room at all
 unfoldable pub itemAsked : List ℕ → ℕ → ℕ → ℕ → ℕ → ItemRead
-itemAsked file batch item room places = itemOf file batch item (pick (leb 4 places) (pick (leb 168 room) room 0) 0)
+itemAsked file batch item room count = itemOf file batch item (pick (leb 4 count) (pick (leb 168 room) room 0) 0)
 
 unfoldable pub numbersWith : ItemFields → List ℕ → List ℕ
 numbersWith f numbers = typeNumber (f .kind) ∷ f .amount ∷ f .payer ∷ f .beneficiary ∷ drop 4 numbers
@@ -72,7 +72,7 @@ abbrev pub textsBy : ItemRead → List ℕ → List ℕ → List ℕ
 textsBy r texts described = pick (eqb (r .answer .number) accepted) (textsWith (r .fields) described) texts
 
 unfoldable pub itemTexts : List ℕ → ℕ → ℕ → List ℕ → ℕ → List ℕ
-itemTexts file batch item texts places = textsBy (itemAsked file batch item (length texts) places) texts (descriptionsAfter file batch item texts)
+itemTexts file batch item texts count = textsBy (itemAsked file batch item (length texts) count) texts (descriptionsAfter file batch item texts)
 
 -- of the texts that a caller finds, the reference and the name
 unfoldable pub fieldsWith : TypeRead → ℕ → ℕ → ℕ → List ℕ → ItemFields
@@ -91,18 +91,18 @@ itemFound r numbers texts = itemBy (unpacked r) numbers texts
 
 -- the room for descriptions: the first 128 bytes, and none where there is no room for everything
 unfoldable pub describedRoom : List ℕ → ℕ → List ℕ
-describedRoom texts places = pick (leb 4 places) (pick (leb 168 (length texts)) (take 128 texts) []) []
+describedRoom texts count = pick (leb 4 count) (pick (leb 168 (length texts)) (take 128 texts) []) []
 
 -- what `items::item` promises, of what a caller finds and with that room, before the call and after it
 abbrev pub ItemPromised : List ℕ → ℕ → ℕ → List ℕ → ItemRead → List ℕ → ℕ → Type 0
-ItemPromised file batch item texts found after places = Promised file batch item (describedRoom texts places) found (describedRoom after places)
+ItemPromised file batch item texts found after count = Promised file batch item (describedRoom texts count) found (describedRoom after count)
 
 -- ## Between the functions of this crate
 
 -- an item's fields with the texts that a caller finds
-unfoldable pub textsFound : ItemFields → List ℕ → ItemFields
-textsFound f texts = fieldsWith (f .kind) (f .amount) (f .payer) (f .beneficiary) texts
+unfoldable pub fieldsBack : ItemFields → List ℕ → ItemFields
+fieldsBack f texts = fieldsWith (f .kind) (f .amount) (f .payer) (f .beneficiary) texts
 
 -- of an item that is handed out they are its own
 unfoldable pub Held : ItemRead → List ℕ → Type 0
-Held r texts = r .answer .number ≡ accepted → textsFound (r .fields) texts ≡ r .fields
+Held r texts = r .answer .number ≡ accepted → fieldsBack (r .fields) texts ≡ r .fields

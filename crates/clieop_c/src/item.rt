@@ -6,7 +6,7 @@ ghost use lib.ListN.{length};
 ghost use Rattle.items.specs.Answering.{itemOf};
 ghost use Rattle.items.specs.Promises.{Promised};
 ghost use Rattle.clieop_c.specs.Returned.{packed, typeNumber, numberOf, itemAsked, numbersWith, textsWith};
-ghost use Rattle.clieop_c.specs.Returned.{textsFound, itemNumbers, itemTexts, Held, itemFound, ItemPromised};
+ghost use Rattle.clieop_c.specs.Returned.{fieldsBack, itemNumbers, itemTexts, Held, itemFound, ItemPromised};
 use crate::pack;
 use field::bytes::put;
 use format::TransactionType;
@@ -52,7 +52,7 @@ fn put_numbers(fields: ItemFields, numbers: &mut [u64])
 fn put_texts(fields: ItemFields, texts: &mut [u8])
     requires { ⌜ 168 ≤ length (now texts) ⌝ }
     ensures texts { λ _. ⌜ now (texts .exit) ≡ textsWith fields (now (texts .entry)) ⌝ }
-    ensures found { λ _. ⌜ textsFound fields (now (texts .exit)) ≡ fields ⌝ }
+    ensures found { λ _. ⌜ fieldsBack fields (now (texts .exit)) ≡ fields ⌝ }
 {
     let reference = fields.reference;
     let name = fields.name;

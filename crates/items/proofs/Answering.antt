@@ -11,13 +11,13 @@ use Rattle.machine.specs.Lists.{pick, putIn}
 use Rattle.format.specs.Answers.{refusal, acceptance}
 use Rattle.format.specs.declared.Answer.{Answer}
 use Rattle.format.specs.Cutting.{linesIn}
-use Rattle.format.specs.Rules.{mostDescriptions}
+use Rattle.format.specs.Rules.{mostDescriptions, isType}
 use Rattle.field.proofs.Putting.{put-front}
 use Rattle.reading.specs.Check.{checkOf}
 use Rattle.descriptions.specs.Texts.{merged}
 use Rattle.descriptions.specs.declared.Descriptions.{Descriptions}
 use Rattle.items.specs.Search.{noFields, started, afterLines}
-use Rattle.items.specs.Answering.{answered, isFound, textsFound, answeredBy, roomBy, isWithin, answeredAt, roomAt, itemOf, roomAfter}
+use Rattle.items.specs.Answering.{answered, textsFound, answeredBy, roomBy, isWithin, answeredAt, roomAt, itemOf, roomAfter}
 use Rattle.items.specs.declared.ItemFields.{ItemFields}
 use Rattle.items.specs.declared.Found.{Found}
 use Rattle.items.specs.declared.Search.{Search}
@@ -35,15 +35,15 @@ module _ (s : Search) (a : Answer) (room : ℕ) where
   unfolding answeredBy pick
   by-refusal z h = h ∙ rw (ne-eqb _ _ z)
 
-  pub by-none : {w : ItemRead} {b : Answer} {q : Bool} → a .number ≡ 0 → q ≡ isFound (s .found .fields .kind) → q ≡ false → b ≡ refusal 13 (a .line) 0 → w ≡ answered b noFields → w ≡ answeredBy s a room
+  pub by-none : {w : ItemRead} {b : Answer} {q : Bool} → a .number ≡ 0 → q ≡ isType (s .found .fields .kind) → q ≡ false → b ≡ refusal 13 (a .line) 0 → w ≡ answered b noFields → w ≡ answeredBy s a room
   unfolding answeredBy pick
   by-none z e f g h = h ∙ ap (λ b. answered b noFields) g ∙ rw (eq-eqb _ _ z, ← e, f)
 
-  pub by-room : {w : ItemRead} {b : Answer} {q : Bool} → a .number ≡ 0 → q ≡ isFound (s .found .fields .kind) → q ≡ true → room < 128 → b ≡ refusal 12 (a .line) 0 → w ≡ answered b noFields → w ≡ answeredBy s a room
+  pub by-room : {w : ItemRead} {b : Answer} {q : Bool} → a .number ≡ 0 → q ≡ isType (s .found .fields .kind) → q ≡ true → room < 128 → b ≡ refusal 12 (a .line) 0 → w ≡ answered b noFields → w ≡ answeredBy s a room
   unfolding answeredBy pick
   by-room z e f l g h = h ∙ ap (λ b. answered b noFields) g ∙ rw (eq-eqb _ _ z, ← e, f, lt-leb 128 room l)
 
-  pub by-item : {b : Answer} {q : Bool} → a .number ≡ 0 → q ≡ isFound (s .found .fields .kind) → q ≡ true → 128 ≤ room → b ≡ acceptance (a .line) → answered b (s .found .fields) ≡ answeredBy s a room
+  pub by-item : {b : Answer} {q : Bool} → a .number ≡ 0 → q ≡ isType (s .found .fields .kind) → q ≡ true → 128 ≤ room → b ≡ acceptance (a .line) → answered b (s .found .fields) ≡ answeredBy s a room
   unfolding answeredBy pick
   by-item z e f l g = ap (λ b. answered b (s .found .fields)) g ∙ rw (eq-eqb _ _ z, ← e, f, le-leb 128 room l)
 
@@ -52,15 +52,15 @@ module _ (s : Search) (a : Answer) (out : List ℕ) where
   unfolding roomBy pick
   room-refused z = rw (ne-eqb _ _ z)
 
-  pub room-none : {q : Bool} → a .number ≡ 0 → q ≡ isFound (s .found .fields .kind) → q ≡ false → out ≡ roomBy s a out
+  pub room-none : {q : Bool} → a .number ≡ 0 → q ≡ isType (s .found .fields .kind) → q ≡ false → out ≡ roomBy s a out
   unfolding roomBy pick
   room-none z e f = rw (eq-eqb _ _ z, ← e, f)
 
-  pub room-small : {q : Bool} → a .number ≡ 0 → q ≡ isFound (s .found .fields .kind) → q ≡ true → length out < 128 → out ≡ roomBy s a out
+  pub room-small : {q : Bool} → a .number ≡ 0 → q ≡ isType (s .found .fields .kind) → q ≡ true → length out < 128 → out ≡ roomBy s a out
   unfolding roomBy pick
   room-small z e f l = rw (eq-eqb _ _ z, ← e, f, lt-leb 128 (length out) l)
 
-  pub room-filled : {o t : List ℕ} {q : Bool} → a .number ≡ 0 → q ≡ isFound (s .found .fields .kind) → q ≡ true → 128 ≤ length out → t ≡ textsFound (s .found) → length t ≡ 128 → o ≡ putIn out 0 t → o ≡ roomBy s a out
+  pub room-filled : {o t : List ℕ} {q : Bool} → a .number ≡ 0 → q ≡ isType (s .found .fields .kind) → q ≡ true → 128 ≤ length out → t ≡ textsFound (s .found) → length t ≡ 128 → o ≡ putIn out 0 t → o ≡ roomBy s a out
   unfolding roomBy pick
   room-filled {o} {t} z e f l g n h = put-front out t (omega (arith, n)) h ∙ ap (λ m. t ++ drop m out) n ∙ ap (λ y. y ++ drop 128 out) g ∙ rw (eq-eqb _ _ z, ← e, f, le-leb 128 (length out) l)
 

@@ -9,8 +9,9 @@ use borrow.Author.Tests.{eq-eqb}
 use lib.ListN.{length, take, drop, length-append}
 use lib.Seq.{take-at, take-append-le}
 use lib.Dec.{T, leb}
+use Rattle.machine.proofs.Base.{none≢some}
 use Rattle.machine.specs.Lists.{pick, spaces}
-use Rattle.format.specs.Rules.{mostDescriptions, typeOf, isTypeIn, needsName}
+use Rattle.format.specs.Rules.{mostDescriptions, typeOf, isTypeIn, needsName, isType}
 use Rattle.format.specs.Language.{Name, Item, Batch, File, Reads, fileRecs, ReferenceOk, DescriptionsOk, NameOk, isSome, ItemOk, ItemsOk, Before, noneBefore, afterThat, BatchOk, BatchesOk}
 use Rattle.format.specs.Cutting.{linesIn, AreLines}
 use Rattle.format.specs.Statements.{InLanguage}
@@ -29,7 +30,7 @@ use Rattle.descriptions.specs.Texts.{noTexts, inPlaces, merged, textFrom}
 use Rattle.descriptions.specs.declared.Descriptions.{Descriptions}
 use Rattle.descriptions.proofs.Lists.{Full, full-more, with-places, merged-places}
 use Rattle.items.specs.Search.{filledTo, noFields, nothingFound, withItem, started, afterLines}
-use Rattle.items.specs.Answering.{answered, isFound, textsFound, answeredBy, roomBy}
+use Rattle.items.specs.Answering.{answered, textsFound, answeredBy, roomBy}
 use Rattle.items.specs.Promises.{nth, ItemAt, itemWith, itemOfBatch, itemAt, referenceFor, nameFor, fieldsFor, textsFor, handedOut, roomWith, Promised}
 use Rattle.items.specs.declared.ItemFields.{ItemFields}
 use Rattle.items.specs.declared.Found.{Found}
@@ -38,9 +39,6 @@ use Rattle.items.specs.declared.ItemRead.{ItemRead}
 use Rattle.items.proofs.Recorded.{afterRecs, lines-back}
 use Rattle.items.proofs.Readings.{addTexts, onReference, onOwn, onName, onFixed, onItem, itemFound, batchFound, batches-on}
 use Rattle.items.proofs.Answering.{by-refusal, room-refused}
-
-none≢some : {A : Type 0} {x : A} → none ≡ some x → ⊥
-none≢some e = let z : _≡_ {A = ℕ} 0 1 = cc in omega arith
 
 some-is : {A : Type 0} {x y : A} → some x ≡ some y → x ≡ y
 some-is e = cc
@@ -91,14 +89,14 @@ module _ (t : TransactionFields) (fx ts : List (List ℕ)) where
   texts-found (some u) none = refl
   texts-found (some u) (some m) = refl
 
-kind-found : (g : Group) (y : TypeRead) → T (isTypeIn g y) → isFound y ≡ true
+kind-found : (g : Group) (y : TypeRead) → T (isTypeIn g y) → isType y ≡ true
 kind-found g (Of y) h = refl
 kind-found g NoType h = absurd h
 
 -- what was found is this item, or nothing
 abbrev Finds : Found → Option ItemAt → Type 0
-Finds f none = isFound (f .fields .kind) ≡ false
-Finds f (some x) = (isFound (f .fields .kind) ≡ true) × ((f .fields ≡ fieldsFor (x .item)) × (textsFound f ≡ textsFor x))
+Finds f none = isType (f .fields .kind) ≡ false
+Finds f (some x) = (isType (f .fields .kind) ≡ true) × ((f .fields ≡ fieldsFor (x .item)) × (textsFound f ≡ textsFor x))
 
 item-finds : (g : Group) (account : ℕ) (fx : List (List ℕ)) (i : Item) → DescriptionsOk fx → length fx ≤ 4 → ItemOk g account i → Finds (onItem (onFixed nothingFound fx) i) (some (record { fixed = fx; item = i }))
 item-finds g account fx i h l k =
@@ -112,7 +110,7 @@ item-finds g account fx i h l k =
     ∙ ap₂ (λ u v. merged u v (mostDescriptions (isSome (i .reference))) .text) (all-places fx h l) (all-places (i .descriptions) (k .descriptions-ok) n)
     ∙ ap (λ (u : Descriptions). u .text)
     (merged-places (spaces 128) (spaces 128) fx (i .descriptions) (mostDescriptions (isSome (i .reference))) (all-full fx h) l (all-full (i .descriptions) (k .descriptions-ok)) n (four-at-most (isSome (i .reference)))) in
-    (ap (λ (u : ItemFields). isFound (u .kind)) e ∙ kind-found g (typeOf (i .type)) y, (e, d))
+    (ap (λ (u : ItemFields). isType (u .kind)) e ∙ kind-found g (typeOf (i .type)) y, (e, d))
 
 -- ## By a reading
 

@@ -5,14 +5,17 @@ use mathlib.Core.List.{List}
 use mathlib.Core.Bool.{Bool, true, false}
 use borrow.Author.Needs.{needs}
 use borrow.Author.Tests.{ne-eqb}
-use lib.ListN.{length, drop}
+use lib.ListN.{length, take, drop}
 use lib.Dec.{eqb}
 use Rattle.machine.specs.Lists.{pick}
 use Rattle.format.specs.Cutting.{nextLine, linesIn}
 use Rattle.format.proofs.Cutting.{lines-at, lines-none}
+use Rattle.format.specs.declared.Kind.{Kind}
+use Rattle.record.specs.Read.{textPart}
+use Rattle.record.specs.declared.read.Part.{Part}
 use Rattle.record.specs.declared.TransactionFields.{TransactionFields}
 use Rattle.descriptions.specs.declared.Descriptions.{Descriptions}
-use Rattle.items.specs.Search.{filledTo, withItem, withFixed, withOwn, referenceIn, withReference, nameIn, withName, searching, finding, opened, fixed, described, referred, named, afterLine, afterLines}
+use Rattle.items.specs.Search.{filledTo, withItem, withFixed, withOwn, referenceIn, withReference, nameIn, withName, textOf, searching, finding, opened, fixed, described, referred, named, afterLine, afterLines}
 use Rattle.items.specs.declared.ItemFields.{ItemFields}
 use Rattle.items.specs.declared.Found.{Found}
 use Rattle.items.specs.declared.Search.{Search}
@@ -31,6 +34,9 @@ reference-made f u e = rw e
 pub name-made : {t : List ℕ} (f : Found) (u : List ℕ) → t ≡ filledTo 24 u → finds (f .fixed) (f .own) (f .referred) (nameIn (f .fields) t) ≡ withName f u
 name-made f u e = rw e
 
+pub text-via : {q : Part} {p : List ℕ} (k : Kind) (line : List ℕ) → q ≡ textPart k → p ≡ take (q .width) (drop (q .at) line) → p ≡ textOf k line
+text-via k line e h = h ∙ ap (λ (q : Part). take (q .width) (drop (q .at) line)) e
+
 pub ruleset founds = (found-made, reference-made, name-made, needs)
 
 -- ## The search
@@ -39,23 +45,23 @@ pub search-made : {b c i j : ℕ} {v w h : Bool} {f g : Found} → b ≡ c → i
 search-made d e k l = rw (d, e, k, l)
 
 module _ (s : Search) (t : TransactionFields) where
-  pub opened-here : {n : ℕ} {g : Found} {u : TransactionFields} → s .within ≡ true → s .items ≡ 1 → n ≡ s .items - 1 → u ≡ t → g ≡ withItem (s .found) u
-      → searching (s .batches) n (s .within) (eqb (s .items) 1) g ≡ opened s t
+  pub opened-here : {n : ℕ} {g : Found} {u : TransactionFields} → s .inside ≡ true → s .items ≡ 1 → n ≡ s .items - 1 → u ≡ t → g ≡ withItem (s .found) u
+      → searching (s .batches) n (s .inside) (eqb (s .items) 1) g ≡ opened s t
   unfolding opened pick
   opened-here w n d h e = rw (w, d, n, e, h)
 
-  pub opened-on : {n : ℕ} → s .within ≡ true → (s .items ≡ 1 → ⊥) → n ≡ s .items - 1 → searching (s .batches) n (s .within) (eqb (s .items) 1) (s .found) ≡ opened s t
+  pub opened-on : {n : ℕ} → s .inside ≡ true → (s .items ≡ 1 → ⊥) → n ≡ s .items - 1 → searching (s .batches) n (s .inside) (eqb (s .items) 1) (s .found) ≡ opened s t
   unfolding opened pick
   opened-on w z d = rw (w, ne-eqb (s .items) 1 z, d)
 
-  pub opened-not : s .within ≡ false → s ≡ opened s t
+  pub opened-not : s .inside ≡ false → s ≡ opened s t
   unfolding opened pick
   opened-not w = rw w
 
 pub ruleset opens = (opened-here, opened-on, opened-not, needs)
 
 module _ {g : Found} {p : List ℕ} (s : Search) (t : List ℕ) (d : p ≡ t) where
-  pub fixed-in : s .within ≡ true → g ≡ withFixed (s .found) p → finding s g ≡ fixed s t
+  pub fixed-in : s .inside ≡ true → g ≡ withFixed (s .found) p → finding s g ≡ fixed s t
   unfolding fixed pick
   fixed-in w h = rw (w, h, d)
 
@@ -72,7 +78,7 @@ module _ {g : Found} {p : List ℕ} (s : Search) (t : List ℕ) (d : p ≡ t) wh
   named-in w h = rw (w, h, d)
 
 module _ (s : Search) (t : List ℕ) where
-  pub fixed-out : s .within ≡ false → s ≡ fixed s t
+  pub fixed-out : s .inside ≡ false → s ≡ fixed s t
   unfolding fixed pick
   fixed-out w = rw w
 

@@ -1,16 +1,14 @@
 -- HOW THE ANSWER IS FOUND: what is answered to one who asks for an item after the search, and the lent room then. What to believe of the answer is said in Promises.antt.
 use Prim.Native.Nat.{ℕ}
 use mathlib.Core.List.{List, _++_}
-use mathlib.Core.Bool.{Bool, true, false, _&&_}
+use mathlib.Core.Bool.{Bool, _&&_}
 use lib.ListN.{length, drop}
 use lib.Dec.{leb, eqb}
 use Rattle.machine.specs.Lists.{pick}
 use Rattle.format.specs.Answers.{accepted, noRoom, noSuchItem, beyondLimits, refusal, acceptance}
 use Rattle.format.specs.declared.Answer.{Answer}
 use Rattle.format.specs.Cutting.{linesIn}
-use Rattle.format.specs.Rules.{maxFixed, maxDescriptions, mostDescriptions}
-use Rattle.format.specs.declared.TypeRead.{TypeRead}
-use Rattle.format.specs.declared.TypeRead.the-variants.{Of, NoType}
+use Rattle.format.specs.Rules.{maxFixed, maxDescriptions, mostDescriptions, isType}
 use Rattle.reading.specs.Check.{checkOf}
 use Rattle.descriptions.specs.Texts.{merged}
 use Rattle.items.specs.Search.{noFields, started, afterLines}
@@ -22,10 +20,6 @@ use Rattle.items.specs.declared.ItemRead.{ItemRead}
 abbrev pub answered : Answer → ItemFields → ItemRead
 answered a fields = record { answer = a; fields = fields }
 
-abbrev pub isFound : TypeRead → Bool
-isFound (Of y) = true
-isFound NoType = false
-
 -- 'the fixed ones, then the item's own, cut to the first four, or three with a reference', in places
 unfoldable pub textsFound : Found → List ℕ
 textsFound f = merged (f .fixed) (f .own) (mostDescriptions (f .referred)) .text
@@ -34,7 +28,7 @@ textsFound f = merged (f .fixed) (f .own) (mostDescriptions (f .referred)) .text
 unfoldable pub answeredBy : Search → Answer → ℕ → ItemRead
 answeredBy s a room =
     pick (eqb (a .number) accepted)
-    (pick (isFound (s .found .fields .kind))
+    (pick (isType (s .found .fields .kind))
     (pick (leb 128 room) (answered (acceptance (a .line)) (s .found .fields))
     (answered (refusal noRoom (a .line) 0) noFields))
     (answered (refusal noSuchItem (a .line) 0) noFields))
@@ -44,7 +38,7 @@ answeredBy s a room =
 unfoldable pub roomBy : Search → Answer → List ℕ → List ℕ
 roomBy s a out =
     pick (eqb (a .number) accepted)
-    (pick (isFound (s .found .fields .kind))
+    (pick (isType (s .found .fields .kind))
     (pick (leb 128 (length out)) (textsFound (s .found) ++ drop 128 out)
     out)
     out)

@@ -2,13 +2,14 @@
 use Prim.Native.Nat.{ℕ, _-_}
 use mathlib.Core.List.{List, [], _∷_, _++_}
 use mathlib.Core.Bool.{Bool, true, false}
-use lib.ListN.{take}
+use lib.ListN.{take, drop}
 use lib.Dec.{eqb}
 use Rattle.machine.specs.Lists.{pick, spaces}
+use Rattle.format.specs.declared.Kind.{Kind}
 use Rattle.format.specs.declared.Kind.the-variants.{FixedDescription, Transaction, NamePayer, PaymentReference, Description}
 use Rattle.format.specs.declared.TypeRead.the-variants.{NoType}
 use Rattle.record.specs.Kinds.{begins, isName, isHeader}
-use Rattle.record.specs.Read.{transactionFor, valuesOf}
+use Rattle.record.specs.Read.{transactionFor, textPart, valuesOf}
 use Rattle.record.specs.declared.TransactionFields.{TransactionFields}
 use Rattle.descriptions.specs.Texts.{noTexts, withText}
 use Rattle.items.specs.declared.ItemFields.{ItemFields}
@@ -56,10 +57,14 @@ nameIn x t = record { kind = x .kind; amount = x .amount; payer = x .payer; bene
 abbrev pub withName : Found → List ℕ → Found
 withName f t = record { fixed = f .fixed; own = f .own; referred = f .referred; fields = nameIn (f .fields) (filledTo 24 t) }
 
+-- the text of a line of that kind
+abbrev pub textOf : Kind → List ℕ → List ℕ
+textOf k line = take (textPart k .width) (drop (textPart k .at) line)
+
 -- ## The search
 
 abbrev pub searching : ℕ → ℕ → Bool → Bool → Found → Search
-searching batches items within here f = record { batches = batches; items = items; within = within; here = here; found = f }
+searching batches items inside here f = record { batches = batches; items = items; inside = inside; here = here; found = f }
 
 abbrev pub started : ℕ → ℕ → Search
 started batch item = searching batch item false false nothingFound
@@ -71,17 +76,17 @@ headed s = searching (s .batches - 1) (s .items) (eqb (s .batches) 1) false (s .
 -- a transaction: only those of the wanted batch count
 unfoldable pub opened : Search → TransactionFields → Search
 opened s t =
-    pick (s .within)
+    pick (s .inside)
     (pick (eqb (s .items) 1) (searching (s .batches) 0 true true (withItem (s .found) t))
     (searching (s .batches) (s .items - 1) true false (s .found)))
     s
 
 abbrev pub finding : Search → Found → Search
-finding s f = searching (s .batches) (s .items) (s .within) (s .here) f
+finding s f = searching (s .batches) (s .items) (s .inside) (s .here) f
 
 -- a fixed description of the wanted batch
 unfoldable pub fixed : Search → List ℕ → Search
-fixed s t = pick (s .within) (finding s (withFixed (s .found) t)) s
+fixed s t = pick (s .inside) (finding s (withFixed (s .found) t)) s
 
 -- a description, reference or name of the wanted item
 unfoldable pub described : Search → List ℕ → Search

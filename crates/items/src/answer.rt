@@ -1,8 +1,9 @@
 // The answer to one who asks for an item.
 ghost use mathlib.Core.Path.{_≡_};
 ghost use lib.ListN.{length};
+ghost use Rattle.format.specs.Rules.{isType};
 ghost use Rattle.items.specs.Search.{noFields};
-ghost use Rattle.items.specs.Answering.{answered, isFound, textsFound, answeredBy, roomBy, isWithin, answeredAt};
+ghost use Rattle.items.specs.Answering.{answered, textsFound, answeredBy, roomBy, isWithin, answeredAt};
 ghost use Rattle.items.specs.Answering.{roomAt, itemOf, roomAfter};
 ghost use Rattle.items.specs.Promises.{Promised};
 use crate::Found;
@@ -16,7 +17,7 @@ use format::TypeRead;
 use record::Batch;
 
 fn is_found(kind: TypeRead) -> bool
-    ensures { λ r. ⌜ r ≡ isFound kind ⌝ }
+    ensures { λ r. ⌜ r ≡ isType kind ⌝ }
 {
     match kind {
         TypeRead::Of(_) => true,

@@ -35,7 +35,7 @@ pub struct Found {
 pub struct Search {
     pub batches: u64,
     pub items: u64,
-    pub within: bool,
+    pub inside: bool,
     pub here: bool,
     pub found: Found,
 }

@@ -1,12 +1,11 @@
 // The search for an item, line by line.
 ghost use mathlib.Core.Path.{_≡_};
 ghost use Prim.Native.Nat.{_-_};
-ghost use lib.ListN.{take, drop};
 ghost use Rattle.format.specs.Cutting.{linesIn};
 ghost use Rattle.format.specs.declared.Kind.the-variants as kinds;
 ghost use Rattle.record.specs.Read.{transactionFor, valuesOf};
 ghost use Rattle.items.specs.Search.{started, headed, opened, fixed, described, referred, named};
-ghost use Rattle.items.specs.Search.{afterLine, afterLines};
+ghost use Rattle.items.specs.Search.{textOf, afterLine, afterLines};
 use crate::Found;
 use crate::Search;
 use field::bytes::next_line;
@@ -15,6 +14,7 @@ use format::Kind;
 use record::kinds::begins;
 use record::kinds::is_header;
 use record::kinds::is_name;
+use record::read::text_part;
 use record::read::transaction_at;
 
 fn less_one(n: u64) -> u64
@@ -26,6 +26,14 @@ fn less_one(n: u64) -> u64
     n - 1
 }
 
+// The text of a line of that kind.
+fn text_at(line: &[u8], kind: Kind) -> &[u8]
+    ensures { λ r. ⌜ now r ≡ textOf kind (now (line .entry)) ⌝ }
+{
+    let p = text_part(kind);
+    part(line, p.at, p.width)
+}
+
 impl Search {
     // Before the first line.
     pub fn start(batch: u64, item: u64) -> Search
@@ -35,7 +43,7 @@ impl Search {
         Search {
             batches: batch,
             items: item,
-            within: false,
+            inside: false,
             here: false,
             found,
         }
@@ -48,7 +56,7 @@ impl Search {
         let mut search = self;
         let left = search.batches;
         search.batches = less_one(left);
-        search.within = left == 1;
+        search.inside = left == 1;
         search.here = false;
         search
     }
@@ -59,7 +67,7 @@ impl Search {
     {
         let mut search = self;
         let left = search.items;
-        if search.within {
+        if search.inside {
             search.items = less_one(left);
             search.here = left == 1;
             if left == 1 {
@@ -71,45 +79,45 @@ impl Search {
     }
 
     fn fixed(self, line: &[u8]) -> Search
-        ensures { λ r. ⌜ r ≡ fixed self (take 32 (drop 5 (now (line .entry)))) ⌝ }
+        ensures { λ r. ⌜ r ≡ fixed self (textOf kinds.FixedDescription (now (line .entry))) ⌝ }
     {
         let mut search = self;
-        if search.within {
+        if search.inside {
             let found = search.found;
-            search.found = found.with_fixed(part(line, 5, 32));
+            search.found = found.with_fixed(text_at(line, Kind::FixedDescription));
         }
         search
     }
 
     fn described(self, line: &[u8]) -> Search
-        ensures { λ r. ⌜ r ≡ described self (take 32 (drop 5 (now (line .entry)))) ⌝ }
+        ensures { λ r. ⌜ r ≡ described self (textOf kinds.Description (now (line .entry))) ⌝ }
     {
         let mut search = self;
         if search.here {
             let found = search.found;
-            search.found = found.with_own(part(line, 5, 32));
+            search.found = found.with_own(text_at(line, Kind::Description));
         }
         search
     }
 
     fn referred(self, line: &[u8]) -> Search
-        ensures { λ r. ⌜ r ≡ referred self (take 16 (drop 5 (now (line .entry)))) ⌝ }
+        ensures { λ r. ⌜ r ≡ referred self (textOf kinds.PaymentReference (now (line .entry))) ⌝ }
     {
         let mut search = self;
         if search.here {
             let found = search.found;
-            search.found = found.with_reference(part(line, 5, 16));
+            search.found = found.with_reference(text_at(line, Kind::PaymentReference));
         }
         search
     }
 
     fn named(self, line: &[u8]) -> Search
-        ensures { λ r. ⌜ r ≡ named self (take 35 (drop 5 (now (line .entry)))) ⌝ }
+        ensures { λ r. ⌜ r ≡ named self (textOf kinds.NamePayer (now (line .entry))) ⌝ }
     {
         let mut search = self;
         if search.here {
             let found = search.found;
-            search.found = found.with_name(part(line, 5, 35));
+            search.found = found.with_name(text_at(line, Kind::NamePayer));
         }
         search
     }

@@ -1,18 +1,18 @@
 -- A file without its cities is accepted again, and is what the writer writes. Assumes nothing.
-use Prim.Native.Nat.{ℕ, _+_}
+use Prim.Native.Nat.{ℕ}
 use mathlib.Core.Path.{_≡_, refl, sym, ap, ap₂, _∙_, subst}
 use mathlib.Core.List.{List, [], _∷_, _++_}
 use mathlib.Core.Bool.{Bool, true, false, not, _&&_}
 use mathlib.Core.Option.{Option, none, some}
 use native.Mathlib.Omega.{arith}
-use borrow.Author.Tests.{eq-eqb, eqb-true}
+use borrow.Author.Tests.{eq-eqb}
 use lib.ListN.{length, take, drop, take-append-drop}
 use lib.Seq.{take-at}
-use lib.Dec.{T, eqb}
-use Rattle.machine.specs.Lists.{pick, pasted}
+use Rattle.machine.specs.Lists.{pick, same, pasted}
 use Rattle.machine.proofs.Base.{true≢false}
-use Rattle.format.specs.Answers.{refusal, acceptance}
+use Rattle.format.specs.Answers.{refusal}
 use Rattle.format.specs.declared.Answer.{Answer}
+use Rattle.format.specs.Language.{isSome}
 use Rattle.format.specs.Cutting.{cutOf, nextLine, afterNext, linesFrom, linesIn}
 use Rattle.format.specs.Records.{type, amount, payer, beneficiary}
 use Rattle.format.specs.Rules.{typeOf, isType}
@@ -29,8 +29,8 @@ use Rattle.record.specs.declared.Before.{Before}
 use Rattle.record.specs.declared.Batch.{Batch}
 use Rattle.record.proofs.ItemFaults.{type-known}
 use Rattle.reading.specs.State.{startState, isLimited, within}
-use Rattle.reading.specs.Step.{nextFor, refused, taken, isDone, judgedFirst, refusalBy, readBy, endedAt, stepAt}
-use Rattle.reading.specs.Check.{judgedAfter, judgedLines, answerBy, checkOf, restOf}
+use Rattle.reading.specs.Step.{refused, taken, isDone, judgedFirst, readBy, stepAt}
+use Rattle.reading.specs.Check.{judgedAfter, judgedLines, checkOf, restOf}
 use Rattle.reading.specs.declared.Name.the-variants.{Unwanted}
 use Rattle.reading.specs.declared.State.{State}
 use Rattle.reading.specs.declared.Judged.{Judged}
@@ -38,7 +38,7 @@ use Rattle.reading.specs.declared.LineRead.{LineRead}
 use Rattle.reading.proofs.Running.{first-own, goingOn}
 use Rattle.reading.proofs.Runs.{nextBy, Runs, no-more, line, Ended, ended-zero, judged, ended-file, runs-file}
 use Rattle.reading.proofs.Slices.{step-own}
-use Rattle.reading.proofs.Verdicts.{Taken, takes}
+use Rattle.reading.proofs.Verdicts.{Taken}
 use Rattle.writer.specs.Entries.{lineFor}
 use Rattle.writer.specs.Writing.{answered, writtenOf}
 use Rattle.writer.specs.Promises.{entryOf}
@@ -127,27 +127,20 @@ without-cities file z = none-left (runs-file file z)
 
 -- ## What the writer writes
 
-is-some : Option Entry → Bool
-is-some none = false
-is-some (some e) = true
-
-the-entry : (o : Option Entry) → is-some o ≡ true → (e : Entry) × (o ≡ some e)
-unfolding is-some
+the-entry : (o : Option Entry) → isSome o ≡ true → (e : Entry) × (o ≡ some e)
 the-entry none h = absurd (true≢false (sym h))
 the-entry (some e) h = (e, refl)
 
-no-entry : (o : Option Entry) → is-some o ≡ false → o ≡ none
-unfolding is-some
+no-entry : (o : Option Entry) → isSome o ≡ false → o ≡ none
 no-entry none h = refl
 no-entry (some e) h = absurd (true≢false h)
 
-item-entry : (t : TypeRead) (n p b : ℕ) → isType t ≡ true → is-some (entryOf (itemOf t n p b)) ≡ true
-unfolding is-some
+item-entry : (t : TypeRead) (n p b : ℕ) → isType t ≡ true → isSome (entryOf (itemOf t n p b)) ≡ true
 item-entry (types.Of y) n p b h = refl
 item-entry types.NoType n p b h = absurd (true≢false (sym h))
 
-has-entry : (p : Before) (b : Batch) (k : Kind) (l : List ℕ) → faultOf p b k l .number ≡ 0 → is-some (entryOf (recordFor k (fieldsOf k l))) ≡ not (isCityKind k)
-unfolding is-some
+has-entry : (p : Before) (b : Batch) (k : Kind) (l : List ℕ) → faultOf p b k l .number ≡ 0 → isSome (entryOf (recordFor k (fieldsOf k l))) ≡ not (isCityKind k)
+unfolding isCity same
 has-entry p b FileHeader l f = refl
 has-entry p b BatchHeaderB l f = refl
 has-entry p b BatchHeaderC l f = refl

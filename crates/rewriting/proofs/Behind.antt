@@ -6,7 +6,7 @@ use mathlib.Core.Bool.{Bool, true, false, not, _&&_, _||_}
 use native.Mathlib.Omega.{arith}
 use borrow.Author.Tests.{eq-eqb, le-leb}
 use lib.ListN.{take}
-use lib.Seq.{take-take}
+use lib.Seq.{take-all, take-take}
 use lib.Dec.{eqb, leb, ltb}
 use Rattle.machine.specs.Lists.{pick, same}
 use Rattle.machine.proofs.Base.{and-second, true≢false}
@@ -19,7 +19,9 @@ use Rattle.format.specs.declared.Group.{Group}
 use Rattle.format.specs.declared.Group.the-variants.{Payments, Debits}
 use Rattle.format.specs.declared.Code.the-variants.{Of}
 use Rattle.format.proofs.Cutting.{cut-bytes}
-use Rattle.record.specs.Kinds.{codeOf}
+use Rattle.format.proofs.Every.{every}
+use Rattle.format.proofs.Link.{line-widths}
+use Rattle.record.specs.Kinds.{isCity, codeOf}
 use Rattle.record.specs.Faults.{fieldsOf, faultOf}
 use Rattle.record.specs.Read.{transactionFor}
 use Rattle.record.proofs.Coding.{code-is}
@@ -32,25 +34,11 @@ use Rattle.reading.specs.declared.Name.the-variants.{Unwanted, Due, Read, Past}
 use Rattle.reading.specs.declared.State.{State}
 use Rattle.reading.proofs.Limits.{within-line}
 use Rattle.reading.proofs.Verdicts.{Taken}
-use Rattle.record.specs.Kinds.{isCity}
 
 -- ## Cities
 
 abbrev pub isCityKind : Kind → Bool
-isCityKind FileHeader = false
-isCityKind BatchHeaderB = false
-isCityKind BatchHeaderC = false
-isCityKind FixedDescription = false
-isCityKind OrderingParty = false
-isCityKind Transaction = false
-isCityKind NamePayer = false
-isCityKind CityPayer = true
-isCityKind PaymentReference = false
-isCityKind Description = false
-isCityKind NameBeneficiary = false
-isCityKind CityBeneficiary = true
-isCityKind BatchTrailer = false
-isCityKind FileTrailer = false
+isCityKind k = isCity (code k)
 
 -- ## The two states
 
@@ -93,7 +81,7 @@ texts-like Payments = refl
 texts-like Debits = refl
 
 allowed-past : (s : State) (l : ℕ) (k : Kind) → isCityKind k ≡ false → allowed (behind s l Past) k ≡ allowed (behind s l Read) k
-unfolding allowed mayPay mayEnd mayName mayRefer mayDescribe mayText
+unfolding allowed mayPay mayEnd mayName mayRefer mayDescribe mayText isCity same
 allowed-past s l FileHeader c = refl
 allowed-past s l BatchHeaderB c = refl
 allowed-past s l BatchHeaderC c = refl
@@ -111,20 +99,7 @@ allowed-past s l FileTrailer c = refl
 
 allowed-same : (s : State) (l : ℕ) (k : Kind) → allowed s k ≡ allowed (behind s l (s .item .name)) k
 unfolding allowed
-allowed-same s l FileHeader = refl
-allowed-same s l BatchHeaderB = refl
-allowed-same s l BatchHeaderC = refl
-allowed-same s l FixedDescription = refl
-allowed-same s l OrderingParty = refl
-allowed-same s l Transaction = refl
-allowed-same s l NamePayer = refl
-allowed-same s l CityPayer = refl
-allowed-same s l PaymentReference = refl
-allowed-same s l Description = refl
-allowed-same s l NameBeneficiary = refl
-allowed-same s l CityBeneficiary = refl
-allowed-same s l BatchTrailer = refl
-allowed-same s l FileTrailer = refl
+allowed-same s l = every (λ k. allowed s k ≡ allowed (behind s l (s .item .name)) k) refl refl refl refl refl refl refl refl refl refl refl refl refl refl
 
 allowed-like : (s : State) (l : ℕ) (n : Name) → NameLike (s .item .name) n → (k : Kind) → isCityKind k ≡ false → allowed s k ≡ true → allowed (behind s l n) k ≡ true
 allowed-like s l n (alike e) k c a = ap (λ m. allowed (behind s l m) k) e ∙ sym (allowed-same s l k) ∙ a
@@ -138,6 +113,7 @@ text-like (alike e) = alike (ap afterText e)
 text-like (unread p q) = alike (ap afterText q ∙ sym (ap afterText p))
 
 next-behind : (s : State) (l : ℕ) (n : Name) → l ≤ s .line → NameLike (s .item .name) n → (k : Kind) → isCityKind k ≡ false → (x : Fields k) → Behind (nextFor s k x) (nextFor (behind s l n) k x)
+unfolding isCity same
 next-behind s l n h e FileHeader c x = by (nextFor s FileHeader x) (l + 1) n (omega arith) e
 next-behind s l n h e BatchHeaderB c x = by (nextFor s BatchHeaderB x) (l + 1) Unwanted (omega arith) (alike refl)
 next-behind s l n h e BatchHeaderC c x = by (nextFor s BatchHeaderC x) (l + 1) Unwanted (omega arith) (alike refl)
@@ -165,7 +141,7 @@ still-read (alike e) h = e ∙ h
 still-read (unread p q) h = q
 
 city-behind : (s : State) (l : ℕ) (n : Name) → l ≤ s .line → NameLike (s .item .name) n → (k : Kind) → isCityKind k ≡ true → allowed s k ≡ true → (x : Fields k) → Behind (nextFor s k x) (behind s l n)
-unfolding allowed mayName
+unfolding allowed mayName isCity same
 city-behind s l n h e FileHeader c a x = absurd (true≢false (sym c))
 city-behind s l n h e BatchHeaderB c a x = absurd (true≢false (sym c))
 city-behind s l n h e BatchHeaderC c a x = absurd (true≢false (sym c))
@@ -208,26 +184,8 @@ module _ {s w : State} {xs : List ℕ} (b : Behind s w) (t : Taken s xs) where
       subst (Behind (nextFor s (t .kind) (fieldsOf (t .kind) (take 50 xs)))) (sym (b .is))
       (city-behind s (b .line) (b .name) (b .small) (b .like) (t .kind) c (t .placed) (fieldsOf (t .kind) (take 50 xs)))
 
-city-code : (k : Kind) → (same (code k) (code CityPayer) || same (code k) (code CityBeneficiary)) ≡ isCityKind k
-unfolding same
-city-code FileHeader = refl
-city-code BatchHeaderB = refl
-city-code BatchHeaderC = refl
-city-code FixedDescription = refl
-city-code OrderingParty = refl
-city-code Transaction = refl
-city-code NamePayer = refl
-city-code CityPayer = refl
-city-code PaymentReference = refl
-city-code Description = refl
-city-code NameBeneficiary = refl
-city-code CityBeneficiary = refl
-city-code BatchTrailer = refl
-city-code FileTrailer = refl
-
 pub city-kind : {s : State} (xs : List ℕ) (t : Taken s xs) → isCity (nextLine xs) ≡ isCityKind (t .kind)
 unfolding isCity
 city-kind xs t =
     ap (λ c. same c (code CityPayer) || same c (code CityBeneficiary))
-    (take-take 5 (cutOf xs .bytes) xs (omega (arith, cut-bytes xs)) ∙ sym (take-take 5 50 xs (omega arith)) ∙ code-is (take 5 (take 50 xs)) (t .kind) (t .coded))
-    ∙ city-code (t .kind)
+    (take-take 5 (cutOf xs .bytes) xs (omega (arith, cut-bytes xs)) ∙ sym (take-take 5 50 xs (omega arith)) ∙ code-is (take 5 (take 50 xs)) (t .kind) (t .coded) ∙ sym (take-all 5 (code (t .kind)) (omega (arith, line-widths (t .kind) .0))))

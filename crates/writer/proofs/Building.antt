@@ -7,7 +7,7 @@ use native.Mathlib.Omega.{arith}
 use borrow.Author.Needs.{needs}
 use lib.ListN.{length, take, drop, length-append, length-replicate, drop-of-length-le}
 use lib.Seq.{take-all, take-at, drop-at, drop-append-add, length-take-le}
-use borrow.Author.Tests.{ne-eqb}
+use borrow.Author.Tests.{ne-eqb, leb-true}
 use lib.Dec.{T, leb, ltb, leb→le}
 use Rattle.machine.specs.Lists.{pick, all, isDigit, isSpace, spaces, pasted, putIn}
 use Rattle.machine.specs.Digits.{pow10, decimal}
@@ -23,7 +23,9 @@ use Rattle.format.specs.declared.TransactionType.{TransactionType}
 use Rattle.format.specs.declared.TransactionType.the-variants.{UncheckedCreditor, UncheckedSalary, Creditor, Salary, Debit, UncheckedDebit}
 use Rattle.format.specs.declared.Kind.{Kind}
 use Rattle.format.specs.declared.Kind.the-variants as kinds
+use Rattle.format.proofs.Every.{every}
 use Rattle.format.proofs.Link.{line-widths}
+use Rattle.record.specs.Read.{textPart}
 use Rattle.record.specs.declared.Transaction.{Transaction}
 use Rattle.reading.specs.declared.State.{State}
 use Rattle.writer.specs.Encoding.{unfit, numberIn, textIn, blankIn, lineEnd, encodedLine}
@@ -222,11 +224,16 @@ item-is x t p q u v w m =
     let b5 = blank 9 0 41 b4 t (omega arith) m in
     b5 .is ∙ simp (append-assoc, append-nil)
 
-pub text-line-is : (k : Kind) (w : ℕ) (t : List ℕ) {a r : List ℕ} → length t ≡ 35 → w ≤ 35 → a ≡ coded (code k) → r ≡ putIn a 5 (textIn w t) → r ≡ encodedLine (code k) (filled w ∷ filler (45 - w) ∷ []) (t, ([], tt))
+text-narrow : (k : Kind) → textPart k .width ≤ 35
+text-narrow k = leb-true (textPart k .width) 35 (every (λ k. leb (textPart k .width) 35 ≡ true) refl refl refl refl refl refl refl refl refl refl refl refl refl refl k)
+
+pub text-line-is : (k : Kind) (t : List ℕ) {a r : List ℕ} → length t ≡ 35 → textPart k .at ≡ 5 → a ≡ coded (code k) → r ≡ putIn a (textPart k .at) (textIn (textPart k .width) t) → r ≡ encodedLine (code k) (filled (textPart k .width) ∷ filler (45 - textPart k .width) ∷ []) (t, ([], tt))
 unfolding encodedLine blankIn pick
-text-line-is k w t {a} h o p q =
+text-line-is k t {a} h o p q =
+    let w = textPart k .width in
+    let n = text-narrow k in
     let z : 45 ≡ w + (45 - w) = omega arith in
-    let b1 = given w (45 - w) 5 (subst (Built a (code k) 5) z (start (code k) (line-widths k .0) p)) t (omega arith) (omega arith) q in
+    let b1 = given w (45 - w) 5 (subst (Built a (code k) 5) z (start (code k) (line-widths k .0) p)) t (omega arith) (omega arith) (q ∙ ap (λ c. putIn a c (textIn w t)) o) in
     b1 .is ∙ simp (append-assoc, append-nil)
 
 pub batch-trailer-is : (x y z : ℕ) (t : List ℕ) {a b c d r : List ℕ} → a ≡ coded (code kinds.BatchTrailer) → b ≡ putIn a 5 (numberIn 18 x) → c ≡ putIn b 23 (numberIn 10 y) → d ≡ putIn c 33 (numberIn 7 z)

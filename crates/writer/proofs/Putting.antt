@@ -13,6 +13,9 @@ use Rattle.machine.specs.Lists.{pick, all, isSpace, putIn}
 use Rattle.machine.specs.Digits.{pow10, decimal}
 use Rattle.machine.proofs.Digits.{length-decimal, decimal-last}
 use Rattle.format.specs.Rules.{testText}
+use Rattle.format.specs.declared.Kind.{Kind}
+use Rattle.record.specs.Read.{textPart}
+use Rattle.record.specs.declared.read.Part.{Part}
 use Rattle.writer.specs.Encoding.{unfit, numberIn, textIn}
 
 -- ## Whether a number has so many digits
@@ -54,14 +57,17 @@ module _ {x : List ℕ} (line : List ℕ) (at w : ℕ) where
 beyond : {b : Bool} {p : List ℕ} (w : ℕ) (t : List ℕ) → p ≡ take (length t) (drop w t) → b ≡ all isSpace p → all isSpace (drop w t) ≡ b
 beyond w t d e = sym (e ∙ ap (all isSpace) (d ∙ take-all (length t) (drop w t) (rw length-drop (omega arith))))
 
-module _ {x p : List ℕ} {b : Bool} (line : List ℕ) (at w : ℕ) (t : List ℕ) (d : p ≡ take (length t) (drop w t)) (e : b ≡ all isSpace p) where
-  pub text-fits : {q : List ℕ} → b ≡ true → q ≡ take w (drop 0 t) → x ≡ putIn line at q → x ≡ putIn line at (textIn w t)
-  unfolding textIn pick
-  text-fits k f h = rw (beyond w t d e, k) (h ∙ ap (putIn line at) f)
+module _ {x p : List ℕ} {b : Bool} {y : Part} (line : List ℕ) (k : Kind) (t : List ℕ) (f : y ≡ textPart k) (d : p ≡ take (length t) (drop (y .width) t)) (e : b ≡ all isSpace p) where
+  own : x ≡ putIn line (y .at) (textIn (y .width) t) → x ≡ putIn line (textPart k .at) (textIn (textPart k .width) t)
+  own h = h ∙ ap (λ (z : Part). putIn line (z .at) (textIn (z .width) t)) f
 
-  pub text-unfit : b ≡ false → x ≡ putIn line at (unfit w) → x ≡ putIn line at (textIn w t)
+  pub text-fits : {q : List ℕ} → b ≡ true → q ≡ take (y .width) (drop 0 t) → x ≡ putIn line (y .at) q → x ≡ putIn line (textPart k .at) (textIn (textPart k .width) t)
   unfolding textIn pick
-  text-unfit k h = rw (beyond w t d e, k) h
+  text-fits c g h = own (rw (beyond (y .width) t d e, c) (h ∙ ap (putIn line (y .at)) g))
+
+  pub text-unfit : b ≡ false → x ≡ putIn line (y .at) (unfit (y .width)) → x ≡ putIn line (textPart k .at) (textIn (textPart k .width) t)
+  unfolding textIn pick
+  text-unfit c h = own (rw (beyond (y .width) t d e, c) h)
 
 pub ruleset carries = (number-fits, number-unfit, text-fits, text-unfit, needs)
 

@@ -5,14 +5,17 @@ ghost use lib.Dec.{ltb};
 ghost use Rattle.machine.specs.Lists.{pick, all, isSpace, putIn};
 ghost use Rattle.machine.specs.Digits.{pow10};
 ghost use Rattle.format.specs.Rules.{testText, groupText, typeText};
+ghost use Rattle.record.specs.Read.{textPart};
 ghost use Rattle.writer.specs.Encoding.{unfit, numberIn, textIn};
 use field::bytes::is_blank;
 use field::bytes::part;
 use field::bytes::put;
 use field::numbers::spelt;
 use format::Group;
+use format::Kind;
 use format::TransactionType;
 use format::codes;
+use record::read::text_part;
 use record::types::group_text;
 use record::types::type_text;
 
@@ -59,14 +62,15 @@ pub(crate) fn put_number(line: [u8; 52], at: usize, width: usize, n: u64) -> [u8
     put_unfit(line, at, width)
 }
 
-// A text, of which only spaces may be beyond the field.
-pub(crate) fn put_text(line: [u8; 52], at: usize, width: usize, text: &[u8]) -> [u8; 52]
-    ensures { λ r. ⌜ r ≡ putIn line at (textIn width (now (text .entry))) ⌝ }
+// The text of a record, of which only spaces may be beyond the field.
+pub(crate) fn put_text(line: [u8; 52], kind: Kind, text: &[u8]) -> [u8; 52]
+    ensures { λ r. ⌜ r ≡ putIn line (textPart kind .at) (textIn (textPart kind .width) (now (text .entry))) ⌝ }
 {
-    if is_blank(part(text, width, text.len())) {
-        return put_bytes(line, at, part(text, 0, width));
+    let p = text_part(kind);
+    if is_blank(part(text, p.width, text.len())) {
+        return put_bytes(line, p.at, part(text, 0, p.width));
     }
-    put_unfit(line, at, width)
+    put_unfit(line, p.at, p.width)
 }
 
 // A field that is left blank: no text may be given for it.

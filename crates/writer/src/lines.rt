@@ -1,12 +1,13 @@
 // The line of a record of each kind, with its end.
 ghost use mathlib.Core.Path.{_≡_};
 ghost use mathlib.Core.List.{[], _∷_, _++_};
-ghost use Prim.Native.Nat.{_-_, _≤_};
+ghost use Prim.Native.Nat.{_-_};
 ghost use Rattle.machine.specs.Lists.{spaces};
 ghost use Rattle.format.specs.Fields.{filled, filler};
 ghost use Rattle.format.specs.Records.{layout, code};
 ghost use Rattle.format.specs.declared.Kind.the-variants.{FileHeader, OrderingParty, BatchTrailer, FileTrailer};
 ghost use Rattle.format.specs.declared.Kind.the-variants as kinds;
+ghost use Rattle.record.specs.Read.{textPart};
 ghost use Rattle.writer.specs.Encoding.{lineEnd, encodedLine};
 ghost use Rattle.writer.specs.Entries.{fileHeaderGiven, orderingPartyGiven, itemGiven, batchTrailerGiven};
 ghost use Rattle.writer.specs.Entries.{lineFor};
@@ -42,7 +43,7 @@ fn file_header(created: u64, identification: u64, duplicate: u64, text: [u8; 35]
 {
     let a = put_number(coded(Kind::FileHeader), 5, 6, created);
     let b = put_bytes(a, 11, &codes::FILE_NAME);
-    let c = put_text(b, 19, 5, &text);
+    let c = put_text(b, Kind::FileHeader, &text);
     let d = put_number(c, 24, 4, identification);
     put_number(d, 28, 1, duplicate)
 }
@@ -68,7 +69,7 @@ fn batch_header(
 {
     if identified {
         let c = put_header(coded(Kind::BatchHeaderC), group, account, sequence);
-        return put_text(c, 24, 16, &text);
+        return put_text(c, Kind::BatchHeaderC, &text);
     }
     let b = put_header(coded(Kind::BatchHeaderB), group, account, sequence);
     put_blank(b, 24, 16, &text)
@@ -80,7 +81,7 @@ fn ordering_party(name_code: u64, desired: u64, test: bool, text: [u8; 35]) -> [
 {
     let a = put_number(coded(Kind::OrderingParty), 5, 1, name_code);
     let b = put_number(a, 6, 6, desired);
-    let c = put_text(b, 12, 35, &text);
+    let c = put_text(b, Kind::OrderingParty, &text);
     put_test(c, test)
 }
 
@@ -96,11 +97,12 @@ fn item(t: Transaction, text: [u8; 35]) -> [u8; 52]
 }
 
 // A record that is its text.
-fn text_line(kind: Kind, width: usize, text: [u8; 35]) -> [u8; 52]
-    requires { ⌜ width ≤ 35 ⌝ }
-    ensures { λ r. ⌜ r ≡ encodedLine (code kind) (filled width ∷ filler (45 - width) ∷ []) (text, ([], tt)) ⌝ }
+fn text_line(kind: Kind, text: [u8; 35]) -> [u8; 52]
+    requires { ⌜ textPart kind .at ≡ 5 ⌝ }
+    ensures { λ r. ⌜ r ≡ encodedLine (code kind)
+        (filled (textPart kind .width) ∷ filler (45 - textPart kind .width) ∷ []) (text, ([], tt)) ⌝ }
 {
-    put_text(coded(kind), 5, width, &text)
+    put_text(coded(kind), kind, &text)
 }
 
 fn batch_trailer(total: u64, accounts: u64, items: u64, text: [u8; 35]) -> [u8; 52]
@@ -135,17 +137,17 @@ pub(crate) fn entry_line(state: State, entry: Entry, text: [u8; 35]) -> [u8; 52]
             sequence,
             identified,
         } => batch_header(group, account, sequence, identified, text),
-        Entry::FixedDescription => text_line(Kind::FixedDescription, 32, text),
+        Entry::FixedDescription => text_line(Kind::FixedDescription, text),
         Entry::OrderingParty {
             code,
             desired,
             test,
         } => ordering_party(code, desired, test, text),
         Entry::Transaction(t) => item(t, text),
-        Entry::NamePayer => text_line(Kind::NamePayer, 35, text),
-        Entry::PaymentReference => text_line(Kind::PaymentReference, 16, text),
-        Entry::Description => text_line(Kind::Description, 32, text),
-        Entry::NameBeneficiary => text_line(Kind::NameBeneficiary, 35, text),
+        Entry::NamePayer => text_line(Kind::NamePayer, text),
+        Entry::PaymentReference => text_line(Kind::PaymentReference, text),
+        Entry::Description => text_line(Kind::Description, text),
+        Entry::NameBeneficiary => text_line(Kind::NameBeneficiary, text),
         Entry::BatchTrailer => batch_trailer(
             state.batch.total,
             state.batch.accounts,

@@ -1,5 +1,4 @@
 -- What put_written ensures, by the laws of Writing.
-use borrow.Author.Needs.{needs}
 use Rattle.clieop_c.proofs.Writing.{writtens}
 use Rattle.clieop_c.proofs.put_written.Statement.{statement}
 use Rattle.clieop_c.proofs.put_written.Tie as tie

@@ -8,7 +8,7 @@ pub fixed-spec : {M : Type 1} → statement M
 fixed-spec =
     tie.close
     (tie.spec
-    (λ c κs. search needs)  -- part-requires
+    (λ c κs. search needs)  -- text-at-requires
     (λ c κs. search needs)  -- with-fixed-requires
     (λ c. search texts depth 20 fits 10000)  -- returns
     (λ c. search texts depth 20 fits 10000)  -- returns-2

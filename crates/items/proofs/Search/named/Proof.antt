@@ -8,7 +8,7 @@ pub named-spec : {M : Type 1} → statement M
 named-spec =
     tie.close
     (tie.spec
-    (λ c κs. search needs)  -- part-requires
+    (λ c κs. search needs)  -- text-at-requires
     (λ c κs. search needs)  -- with-name-requires
     (λ c. search texts depth 20 fits 10000)  -- returns
     (λ c. search texts depth 20 fits 10000)  -- returns-2

@@ -8,6 +8,7 @@ pub put-text-spec : {M : Type 1} → statement M
 put-text-spec =
     tie.close
     (tie.spec
+    (λ c κs. search needs)  -- text-part-requires
     (λ c κs. search needs)  -- part-requires
     (λ c κs. search needs)  -- is-blank-requires
     (λ c κs. search needs)  -- part-requires-2
