@@ -25,7 +25,7 @@ use Rattle.field.specs.Rows.{Row, partAt, firstAnswer, fieldAnswer, rowsAt, che
 use Rattle.field.specs.Leaf.{digitsOf}
 use Rattle.field.proofs.Numerics.{digits-are}
 use Rattle.record.specs.Faults.{faultAt, noFault, firstFault, fieldsOf, testsFor, maximaFor, faultOf}
-use Rattle.record.specs.Read.{transactionFor, itemOf, recordFor, noText, padded, textPart, textFor, valueIn, valuesAt, valuesOf, headerFor}
+use Rattle.record.specs.Read.{transactionFor, transactionRecord, recordFor, noText, padded, textPart, textFor, valueIn, valuesAt, valuesOf, headerFor}
 use Rattle.record.specs.declared.Fault.{Fault}
 use Rattle.record.specs.declared.Before.{Before}
 use Rattle.record.specs.declared.Batch.{Batch}
@@ -43,11 +43,11 @@ pub transaction-made : {k l : TypeRead} {a p b a′ p′ b′ : ℕ} → k ≡ l
     → _≡_ {A = TransactionFields} (record { kind = k; amount = a; payer = p; beneficiary = b }) (record { kind = l; amount = a′; payer = p′; beneficiary = b′ })
 transaction-made e f g h = rw (e, f, g, h)
 
-pub item-made : {t : TypeRead} {y : TransactionType} (n p b : ℕ) → t ≡ Of y → the.Transaction (record { kind = y; amount = n; payer = p; beneficiary = b }) ≡ itemOf t n p b
-item-made n p b e = rw e
+pub transaction-typed : {t : TypeRead} {y : TransactionType} (n p b : ℕ) → t ≡ Of y → the.Transaction (record { kind = y; amount = n; payer = p; beneficiary = b }) ≡ transactionRecord t n p b
+transaction-typed n p b e = rw e
 
-pub item-via : {r : Record} {x : TransactionFields} (line : List ℕ) → x ≡ transactionFor (valuesOf Transaction line) → r ≡ itemOf (x .kind) (x .amount) (x .payer) (x .beneficiary) → r ≡ recordFor Transaction (valuesOf Transaction line)
-item-via line e h = h ∙ ap (λ (x : TransactionFields). itemOf (x .kind) (x .amount) (x .payer) (x .beneficiary)) e
+pub transaction-via : {r : Record} {x : TransactionFields} (line : List ℕ) → x ≡ transactionFor (valuesOf Transaction line) → r ≡ transactionRecord (x .kind) (x .amount) (x .payer) (x .beneficiary) → r ≡ recordFor Transaction (valuesOf Transaction line)
+transaction-via line e h = h ∙ ap (λ (x : TransactionFields). transactionRecord (x .kind) (x .amount) (x .payer) (x .beneficiary)) e
 
 pub header-made : {g : Group} {a s : ℕ} (identified : Bool) (line : List ℕ) → g ≡ groupOf (take 2 (drop 5 line)) → a ≡ digitsOf (take 10 (drop 7 line)) .value → s ≡ digitsOf (take 4 (drop 17 line)) .value → the.BatchHeader g a s identified ≡ headerFor identified line
 header-made true line e f h = rw (e, f, h)

@@ -45,9 +45,9 @@ transactionOf g own line =
 -- ## Every kind
 
 -- a type that is none of the six is in no record
-abbrev pub itemOf : TypeRead → ℕ → ℕ → ℕ → Record
-itemOf (Of y) n p b = the.Transaction (record { kind = y; amount = n; payer = p; beneficiary = b })
-itemOf NoType n p b = the.Nothing
+abbrev pub transactionRecord : TypeRead → ℕ → ℕ → ℕ → Record
+transactionRecord (Of y) n p b = the.Transaction (record { kind = y; amount = n; payer = p; beneficiary = b })
+transactionRecord NoType n p b = the.Nothing
 
 abbrev pub recordFor : (k : Kind) → Fields k → Record
 recordFor FileHeader x = the.FileHeader (creationDate x) (digitsOf (identification x) .value) (duplicateCode x)
@@ -55,7 +55,7 @@ recordFor BatchHeaderB x = the.BatchHeader (groupOf (group x)) (orderingAccount 
 recordFor BatchHeaderC x = the.BatchHeader (groupOf (group (unidentified x))) (orderingAccount (unidentified x)) (sequence (unidentified x)) true
 recordFor FixedDescription x = the.FixedDescription
 recordFor OrderingParty x = the.OrderingParty (nameCode x) (desiredDate x) (same (testCode x) (testText true))
-recordFor Transaction x = itemOf (typeOf (type x)) (amount x) (payer x) (beneficiary x)
+recordFor Transaction x = transactionRecord (typeOf (type x)) (amount x) (payer x) (beneficiary x)
 recordFor NamePayer x = the.NamePayer
 recordFor CityPayer x = the.CityPayer
 recordFor PaymentReference x = the.PaymentReference

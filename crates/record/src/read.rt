@@ -4,7 +4,7 @@ ghost use lib.ListN.{take, drop};
 ghost use Rattle.format.specs.declared.Kind.the-variants.{FileHeader, OrderingParty, BatchTrailer};
 ghost use Rattle.format.specs.declared.Kind.the-variants as kinds;
 ghost use Rattle.field.specs.Leaf.{digitsOf};
-ghost use Rattle.record.specs.Read.{transactionFor, itemOf, recordFor, headerFor, textPart, textFor, valuesOf};
+ghost use Rattle.record.specs.Read.{transactionFor, transactionRecord, recordFor, headerFor, textPart, textFor, valuesOf};
 use crate::Record;
 use crate::Transaction;
 use crate::TransactionFields;
@@ -68,8 +68,8 @@ fn ordering_party_at(line: &[u8]) -> Record
 }
 
 // A type that is none of the six is in no record.
-fn item_of(t: TypeRead, amount: u64, payer: u64, beneficiary: u64) -> Record
-    ensures { λ r. ⌜ r ≡ itemOf t amount payer beneficiary ⌝ }
+fn transaction_record(t: TypeRead, amount: u64, payer: u64, beneficiary: u64) -> Record
+    ensures { λ r. ⌜ r ≡ transactionRecord t amount payer beneficiary ⌝ }
 {
     match t {
         TypeRead::Of(kind) => {
@@ -85,12 +85,12 @@ fn item_of(t: TypeRead, amount: u64, payer: u64, beneficiary: u64) -> Record
     }
 }
 
-fn item_at(line: &[u8]) -> Record
+fn transaction_record_at(line: &[u8]) -> Record
     ensures { λ r. ⌜ r ≡ recordFor kinds.Transaction (valuesOf kinds.Transaction (now (line .entry))) ⌝ }
 {
     let x = transaction_at(line);
     let t = x.kind;
-    item_of(t, x.amount, x.payer, x.beneficiary)
+    transaction_record(t, x.amount, x.payer, x.beneficiary)
 }
 
 fn batch_trailer_at(line: &[u8]) -> Record
@@ -112,7 +112,7 @@ pub fn record_in(kind: Kind, line: &[u8]) -> Record
         Kind::BatchHeaderC => batch_header_at(line, true),
         Kind::FixedDescription => Record::FixedDescription,
         Kind::OrderingParty => ordering_party_at(line),
-        Kind::Transaction => item_at(line),
+        Kind::Transaction => transaction_record_at(line),
         Kind::NamePayer => Record::NamePayer,
         Kind::CityPayer => Record::CityPayer,
         Kind::PaymentReference => Record::PaymentReference,

@@ -24,7 +24,7 @@ use Rattle.format.specs.declared.TypeRead.the-variants as types
 use Rattle.format.proofs.Cutting.{Lined, no-line, one-line, lined, lines-whole}
 use Rattle.field.proofs.Putting.{pasted-front}
 use Rattle.record.specs.Faults.{fieldsOf, faultOf}
-use Rattle.record.specs.Read.{itemOf, recordFor}
+use Rattle.record.specs.Read.{transactionRecord, recordFor}
 use Rattle.record.specs.declared.Before.{Before}
 use Rattle.record.specs.declared.Batch.{Batch}
 use Rattle.record.proofs.ItemFaults.{type-known}
@@ -135,7 +135,7 @@ no-entry : (o : Option Entry) → isSome o ≡ false → o ≡ none
 no-entry none h = refl
 no-entry (some e) h = absurd (true≢false h)
 
-item-entry : (t : TypeRead) (n p b : ℕ) → isType t ≡ true → isSome (entryOf (itemOf t n p b)) ≡ true
+item-entry : (t : TypeRead) (n p b : ℕ) → isType t ≡ true → isSome (entryOf (transactionRecord t n p b)) ≡ true
 item-entry (types.Of y) n p b h = refl
 item-entry types.NoType n p b h = absurd (true≢false (sym h))
 

@@ -29,7 +29,7 @@ use Rattle.field.specs.declared.numbers.Digits.{Digits}
 use Rattle.field.specs.Leaf.{digitsOf}
 use Rattle.field.proofs.Numerics.{digits-are}
 use Rattle.record.specs.Faults.{fieldsOf, testsFor}
-use Rattle.record.specs.Read.{itemOf, recordFor, textFor, noText, padded}
+use Rattle.record.specs.Read.{transactionRecord, recordFor, textFor, noText, padded}
 use Rattle.reading.specs.Step.{stepAt}
 use Rattle.reading.specs.declared.State.{State}
 use Rattle.reading.specs.declared.LineRead.{LineRead}
@@ -143,7 +143,7 @@ written-as : (s : State) (t : List ℕ) (a : Entry) (x : Fields (kindOf a)) → 
 unfolding lineFor encodedLine
 written-as s t a x h e p = ap (λ b. code (kindOf a) ++ (b ++ lineEnd)) (sym (stands (layout (kindOf a)) (givenFor s t a) x h)) ∙ ap (λ b. lineFor s b t) (one-entry a e p)
 
-item-again : (s : State) (x : Fields kinds.Transaction) → Fits (layout kinds.Transaction) x → (e : Entry) (t : TypeRead) → typeOf (type x) ≡ t → entryOf (itemOf t (amount x) (payer x) (beneficiary x)) ≡ some e
+item-again : (s : State) (x : Fields kinds.Transaction) → Fits (layout kinds.Transaction) x → (e : Entry) (t : TypeRead) → typeOf (type x) ≡ t → entryOf (transactionRecord t (amount x) (payer x) (beneficiary x)) ≡ some e
     → code kinds.Transaction ++ (writeFields (layout kinds.Transaction) x ++ lineEnd) ≡ lineFor s e noText
 item-again s x f e (Of y) p q =
     written-as s noText (Transaction (record { kind = y; amount = amount x; payer = payer x; beneficiary = beneficiary x })) x (

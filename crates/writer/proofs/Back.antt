@@ -27,7 +27,7 @@ use Rattle.field.specs.declared.numbers.Digits.{Digits}
 use Rattle.field.specs.Leaf.{digitsOf}
 use Rattle.field.proofs.Numerics.{digits-are}
 use Rattle.record.specs.Faults.{fieldsOf}
-use Rattle.record.specs.Read.{itemOf, recordFor, textFor, noText, padded}
+use Rattle.record.specs.Read.{transactionRecord, recordFor, textFor, noText, padded}
 use Rattle.record.specs.declared.Record.the-variants as read
 use Rattle.reading.specs.Step.{nextFor, stepAt}
 use Rattle.reading.specs.declared.State.{State}
@@ -209,7 +209,7 @@ record-back s t (BatchHeader g a q true) f = ap (λ y. read.BatchHeader y a q tr
 record-back s t (BatchHeader g a q false) f = ap (λ y. read.BatchHeader y a q false) (group-of g)
 record-back s t FixedDescription f = refl
 record-back s t (OrderingParty n d b) f = ap (λ y. read.OrderingParty n d y) (test-of b)
-record-back s t (Transaction x) f = ap (λ y. itemOf y (x .amount) (x .payer) (x .beneficiary)) (type-of (x .kind))
+record-back s t (Transaction x) f = ap (λ y. transactionRecord y (x .amount) (x .payer) (x .beneficiary)) (type-of (x .kind))
 record-back s t NamePayer f = refl
 record-back s t PaymentReference f = refl
 record-back s t Description f = refl

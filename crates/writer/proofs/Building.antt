@@ -29,7 +29,7 @@ use Rattle.record.specs.Read.{textPart}
 use Rattle.record.specs.declared.Transaction.{Transaction}
 use Rattle.reading.specs.declared.State.{State}
 use Rattle.writer.specs.Encoding.{unfit, numberIn, textIn, blankIn, lineEnd, encodedLine}
-use Rattle.writer.specs.Entries.{digitsFor, fileHeaderGiven, orderingPartyGiven, itemGiven, batchTrailerGiven, kindOf, givenFor, lineFor}
+use Rattle.writer.specs.Entries.{digitsFor, fileHeaderGiven, orderingPartyGiven, transactionGiven, batchTrailerGiven, kindOf, givenFor, lineFor}
 use Rattle.writer.specs.Inner.{headerStart, batchHeaderLine}
 use Rattle.writer.specs.declared.Entry.{Entry}
 use Rattle.writer.specs.declared.Entry.the-variants.{BatchHeader}
@@ -213,10 +213,10 @@ ordering-party-is x y o t h p q u v w =
     let b4 = fixed 1 2 47 b3 (testText o) (test-long o) w in
     b4 .is ∙ simp append-assoc
 
-pub item-is : (x : Transaction) (t : List ℕ) {a b c d e r : List ℕ} → a ≡ coded (code kinds.Transaction) → b ≡ putIn a 5 (typeText (x .kind)) → c ≡ putIn b 9 (numberIn 12 (x .amount))
-    → d ≡ putIn c 21 (numberIn 10 (x .payer)) → e ≡ putIn d 31 (numberIn 10 (x .beneficiary)) → r ≡ pick (all isSpace t) e (putIn e 41 (unfit 9)) → r ≡ encodedLine (code kinds.Transaction) (layout kinds.Transaction) (itemGiven x t)
+pub transaction-is : (x : Transaction) (t : List ℕ) {a b c d e r : List ℕ} → a ≡ coded (code kinds.Transaction) → b ≡ putIn a 5 (typeText (x .kind)) → c ≡ putIn b 9 (numberIn 12 (x .amount))
+    → d ≡ putIn c 21 (numberIn 10 (x .payer)) → e ≡ putIn d 31 (numberIn 10 (x .beneficiary)) → r ≡ pick (all isSpace t) e (putIn e 41 (unfit 9)) → r ≡ encodedLine (code kinds.Transaction) (layout kinds.Transaction) (transactionGiven x t)
 unfolding encodedLine
-item-is x t p q u v w m =
+transaction-is x t p q u v w m =
     let b1 = fixed 4 41 5 (start (code kinds.Transaction) refl p) (typeText (x .kind)) (type-long (x .kind)) q in
     let b2 = number 12 29 9 b1 (x .amount) (omega arith) u in
     let b3 = number 10 19 21 b2 (x .payer) (omega arith) v in
@@ -250,7 +250,7 @@ pub file-trailer-is : (t : List ℕ) {a r : List ℕ} → a ≡ coded (code kind
 unfolding encodedLine
 file-trailer-is t p q = let b1 = blank 45 0 5 (start (code kinds.FileTrailer) refl p) t (omega arith) q in b1 .is ∙ simp (append-assoc, append-nil)
 
-pub ruleset builds = (code-put, file-header-is, header-start, identified-is, unidentified-is, ordering-party-is, item-is, text-line-is, batch-trailer-is, file-trailer-is, needs)
+pub ruleset builds = (code-put, file-header-is, header-start, identified-is, unidentified-is, ordering-party-is, transaction-is, text-line-is, batch-trailer-is, file-trailer-is, needs)
 
 -- ## A record to write
 

@@ -47,8 +47,8 @@ batchHeaderGiven g account sequence t = (groupText g, (account, (sequence, (EUR,
 abbrev pub orderingPartyGiven : ℕ → ℕ → Bool → List ℕ → Givens (layout kinds.OrderingParty)
 orderingPartyGiven n desired test t = (n, (desired, (t, (testText test, ([], tt)))))
 
-abbrev pub itemGiven : Transaction → List ℕ → Givens (layout kinds.Transaction)
-itemGiven x t = (typeText (x .kind), (x .amount, (x .payer, (x .beneficiary, (t, tt)))))
+abbrev pub transactionGiven : Transaction → List ℕ → Givens (layout kinds.Transaction)
+transactionGiven x t = (typeText (x .kind), (x .amount, (x .payer, (x .beneficiary, (t, tt)))))
 
 abbrev pub batchTrailerGiven : ℕ → ℕ → ℕ → List ℕ → Givens (layout kinds.BatchTrailer)
 batchTrailerGiven total accounts items t = (total, (accounts, (items, (t, tt))))
@@ -59,7 +59,7 @@ givenFor s t (BatchHeader g a q true) = batchHeaderGiven g a q t
 givenFor s t (BatchHeader g a q false) = batchHeaderGiven g a q t
 givenFor s t FixedDescription = (t, ([], tt))
 givenFor s t (OrderingParty n d b) = orderingPartyGiven n d b t
-givenFor s t (entry.Transaction x) = itemGiven x t
+givenFor s t (entry.Transaction x) = transactionGiven x t
 givenFor s t NamePayer = (t, ([], tt))
 givenFor s t PaymentReference = (t, ([], tt))
 givenFor s t Description = (t, ([], tt))

@@ -9,7 +9,7 @@ ghost use Rattle.format.specs.declared.Kind.the-variants.{FileHeader, OrderingP
 ghost use Rattle.format.specs.declared.Kind.the-variants as kinds;
 ghost use Rattle.record.specs.Read.{textPart};
 ghost use Rattle.writer.specs.Encoding.{lineEnd, encodedLine};
-ghost use Rattle.writer.specs.Entries.{fileHeaderGiven, orderingPartyGiven, itemGiven, batchTrailerGiven};
+ghost use Rattle.writer.specs.Entries.{fileHeaderGiven, orderingPartyGiven, transactionGiven, batchTrailerGiven};
 ghost use Rattle.writer.specs.Entries.{lineFor};
 ghost use Rattle.writer.specs.Inner.{headerStart, batchHeaderLine};
 use crate::Entry;
@@ -85,8 +85,8 @@ fn ordering_party(name_code: u64, desired: u64, test: bool, text: [u8; 35]) -> [
     put_test(c, test)
 }
 
-fn item(t: Transaction, text: [u8; 35]) -> [u8; 52]
-    ensures { λ r. ⌜ r ≡ encodedLine (code kinds.Transaction) (layout kinds.Transaction) (itemGiven t text) ⌝ }
+fn transaction(t: Transaction, text: [u8; 35]) -> [u8; 52]
+    ensures { λ r. ⌜ r ≡ encodedLine (code kinds.Transaction) (layout kinds.Transaction) (transactionGiven t text) ⌝ }
 {
     let kind = t.kind;
     let a = put_type(coded(Kind::Transaction), kind);
@@ -143,7 +143,7 @@ pub(crate) fn entry_line(state: State, entry: Entry, text: [u8; 35]) -> [u8; 52]
             desired,
             test,
         } => ordering_party(code, desired, test, text),
-        Entry::Transaction(t) => item(t, text),
+        Entry::Transaction(t) => transaction(t, text),
         Entry::NamePayer => text_line(Kind::NamePayer, text),
         Entry::PaymentReference => text_line(Kind::PaymentReference, text),
         Entry::Description => text_line(Kind::Description, text),

@@ -17,7 +17,7 @@ entry-line-spec =
     (λ c. search needs)  -- enum-known-entry-3
     (λ c κs. search needs)  -- ordering-party-requires
     (λ c. search needs)  -- enum-known-entry-4
-    (λ c κs. search needs)  -- item-requires
+    (λ c κs. search needs)  -- transaction-requires
     (λ c. search needs)  -- enum-told-2
     (λ c κs. search needs)  -- text-line-requires-2
     (λ c. search needs)  -- enum-told-3

@@ -1,11 +1,11 @@
--- What lines::item ensures, by the laws of Building.
+-- What lines::transaction ensures, by the laws of Building.
 use borrow.Author.Needs.{needs}
 use Rattle.writer.proofs.Building.{builds}
-use Rattle.writer.proofs.lines.item.Statement.{statement}
-use Rattle.writer.proofs.lines.item.Tie as tie
+use Rattle.writer.proofs.lines.transaction.Statement.{statement}
+use Rattle.writer.proofs.lines.transaction.Tie as tie
 
-pub item-spec : {M : Type 1} → statement M
-item-spec =
+pub transaction-spec : {M : Type 1} → statement M
+transaction-spec =
     tie.close
     (tie.spec
     (λ c κs. search needs)  -- coded-requires
