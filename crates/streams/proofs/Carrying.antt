@@ -7,7 +7,7 @@ use native.Mathlib.Numerals.{add-one}
 use borrow.Author.Needs.{needs}
 use lib.ListN.{length, getD, set, take, drop, length-take, length-drop, length-set, length-append}
 use lib.Seq.{paste, paste-zero, paste-suc, drop-paste, take-length, take-take, take-append-seam, getD-take, getD-drop}
-use Rattle.streams.specs.Taking.{leftIn, carriedIn, ComesFirst}
+use Rattle.streams.specs.Taking.{leftIn, carriedIn}
 use Rattle.streams.specs.declared.lines.Lines.{Lines}
 
 pub left-length : (l : Lines) (b : List ℕ) → length (leftIn l b) ≡ min (l .end) (length b) - l .at
@@ -89,7 +89,7 @@ module _ {n : ℕ} {now : List ℕ} (l : Lines) (b : List ℕ) (k : n ≡ length
   carried-fits = omega (arith, ap length e, length-append (leftIn l b) (drop (length (leftIn l b)) b))
 
   -- whatever is read behind it
-  pub carried-first : (c : ℕ) (read : List ℕ) → ComesFirst (leftIn l b) (take (n + c) (take n now ++ read))
+  pub carried-first : (c : ℕ) (read : List ℕ) → take (length (leftIn l b)) (take (n + c) (take n now ++ read)) ≡ leftIn l b
   carried-first c read =
       let f : take n now ≡ leftIn l b = ap (take n) e ∙ ap (λ m. take m (carriedIn l b)) k ∙ take-append-seam (leftIn l b) (drop (length (leftIn l b)) b) in
       let m : length (leftIn l b) ≤ n + c = omega (arith, k) in

@@ -1,7 +1,7 @@
 -- What is taken of a buffer, and how a program ends. Assumes nothing.
 use Prim.Native.Nat.{ℕ, zero, suc, _+_, _-_, _≤_, _<_, min, max}
 use mathlib.Core.Path.{_≡_, refl, sym, ap, subst, _∙_}
-use mathlib.Core.List.{List}
+use mathlib.Core.List.{List, _++_}
 use mathlib.Core.Bool.{Bool, true, false, _||_}
 use native.Mathlib.Omega.{arith}
 use borrow.Author.Tests.{leb-true, lt-ltb}
@@ -12,10 +12,10 @@ use Rattle.machine.specs.Lists.{pick}
 use Rattle.format.specs.Cutting.{cutOf, nextLine}
 use Rattle.format.specs.declared.Cut.{Cut}
 use Rattle.format.proofs.Cutting.{cut-bytes}
-use Rattle.streams.specs.Taking.{hasLeft, leftIn, isReady, ComesFirst, passedOne}
+use Rattle.streams.specs.Taking.{leftIn, passedOne, isReady, carriedIn, Pulled}
 use Rattle.streams.specs.Status.{statusDigit}
 use Rattle.streams.specs.declared.lines.Lines.{Lines}
-use Rattle.streams.proofs.Carrying.{left-length}
+use Rattle.streams.proofs.Carrying.{left-length, carried-first}
 
 -- ## What is left
 
@@ -36,25 +36,35 @@ ready-some : (over : Bool) (c n at end m : ℕ) → 50 < c → n ≡ min end m -
 ready-some true c n at end m h e t = or-true (ltb at end)
 ready-some false c n at end m h e t = let k : c ≤ n = leb-true c n t in rw (lt-ltb at end (omega arith)) refl
 
-module _ {t : Bool} (l : Lines) (b : List ℕ) (e : t ≡ isReady l b) where
-  pub ready-left : t ≡ true → (hasLeft l || l .over) ≡ true
-  ready-left h = ready-some (l .over) _ _ (l .at) (l .end) (length b) (cut-bytes (leftIn l b) .0) (left-length l b) (sym e ∙ h)
-
-  module _ {A : Type 0} (x y : A) where
-    pub kept-as-was : t ≡ true → x ≡ pick (isReady l b) x y
-    unfolding pick
-    kept-as-was h = rw (sym e ∙ h) refl
-
-    pub read-anew : t ≡ false → y ≡ pick (isReady l b) x y
-    unfolding pick
-    read-anew h = rw (sym e ∙ h) refl
-
-pub all-first : (xs : List ℕ) → ComesFirst xs xs
-all-first xs = take-length xs
-
-pub some-filled : (n k m : ℕ) → (ltb 0 (n + k) || (eqb k 0 || ltb (n + k) m)) ≡ true
+some-filled : (n k m : ℕ) → (ltb 0 (n + k) || (eqb k 0 || ltb (n + k) m)) ≡ true
 some-filled n zero m = or-true (ltb 0 (n + 0))
 some-filled n (suc k) m = rw (lt-ltb 0 (n + suc k) (omega arith)) refl
+
+module _ {A : Type 0} {t : Bool} (x y : A) where
+  picked : t ≡ true → x ≡ pick t x y
+  unfolding pick
+  picked e = rw e refl
+
+  passed : t ≡ false → y ≡ pick t x y
+  unfolding pick
+  passed e = rw e refl
+
+module _ {t : Bool} (l : Lines) (b : List ℕ) (e : t ≡ isReady l b) where
+  pub pulled-ready : t ≡ true → Pulled l b l b
+  pulled-ready h =
+      let q : isReady l b ≡ true = sym e ∙ h in
+      record {
+        left = ready-some (l .over) _ _ (l .at) (l .end) (length b) (cut-bytes (leftIn l b) .0) (left-length l b) q;
+        kept = picked l l q;
+        bytes = picked b b q;
+        carried = take-length (leftIn l b);
+      }
+
+  pub pulled-anew : {n : ℕ} {now : List ℕ} (c m : ℕ) (failed : Bool) (read : List ℕ) → t ≡ false → n ≡ length (leftIn l b) → now ≡ carriedIn l b
+      → Pulled l b (record { at = 0; end = n + c; over = eqb c 0 || ltb (n + c) m; failed = failed }) (take n now ++ read)
+  pulled-anew {n} c m failed read h k f =
+      let q : isReady l b ≡ false = sym e ∙ h in
+      record { left = some-filled n c m; kept = passed l _ q; bytes = passed b _ q; carried = carried-first l b k f c read }
 
 -- ## The next line
 
@@ -72,15 +82,8 @@ module _ (l : Lines) (buffer r : List ℕ) (e : r ≡ nextLine (leftIn l buffer)
 abbrev movedTo : Lines → ℕ → Lines
 movedTo l at = record { at = at; end = l .end; over = l .over; failed = l .failed }
 
-module _ {r : List ℕ} (l : Lines) (buffer : List ℕ) (e : r ≡ nextLine (leftIn l buffer)) where
-  pub next-kept : {n : Lines} → n ≡ pick (isReady (movedTo l (l .at + length r)) buffer) (movedTo l (l .at + length r)) n → n ≡ pick (isReady (passedOne l buffer) buffer) (passedOne l buffer) n
-  next-kept {n} h = h ∙ ap (λ x. pick (isReady (movedTo l (l .at + length x)) buffer) (movedTo l (l .at + length x)) n) e
-
-  pub next-bytes : {b : List ℕ} → b ≡ pick (isReady (movedTo l (l .at + length r)) buffer) buffer b → b ≡ pick (isReady (passedOne l buffer) buffer) buffer b
-  next-bytes {b} h = h ∙ ap (λ x. pick (isReady (movedTo l (l .at + length x)) buffer) buffer b) e
-
-  pub next-carried : (now : List ℕ) → ComesFirst (leftIn (movedTo l (l .at + length r)) buffer) now → ComesFirst (leftIn (passedOne l buffer) buffer) now
-  next-carried now h = subst (λ x. ComesFirst (leftIn (movedTo l (l .at + length x)) buffer) now) e h
+pub next-pulled : {r : List ℕ} {n : Lines} {b : List ℕ} (l : Lines) (buffer : List ℕ) → r ≡ nextLine (leftIn l buffer) → Pulled (movedTo l (l .at + length r)) buffer n b → Pulled (passedOne l buffer) buffer n b
+next-pulled {n = n} {b} l buffer e h = subst (λ x. Pulled (movedTo l (l .at + length x)) buffer n b) e h
 
 -- ## Status
 

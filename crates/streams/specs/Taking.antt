@@ -6,6 +6,7 @@ use mathlib.Core.Bool.{Bool, true, false, _||_}
 use lib.ListN.{length, take, drop}
 use lib.Dec.{leb, ltb}
 use lib.IntN.{ℤ, pos}
+use Rattle.machine.specs.Lists.{pick}
 use Rattle.format.specs.Cutting.{cutOf, nextLine}
 use Rattle.streams.specs.declared.lines.Lines.{Lines}
 use Rattle.streams.specs.declared.twice.Source.{Source}
@@ -33,13 +34,19 @@ isReady l buffer = l .over || leb (cutOf (leftIn l buffer) .bytes) (length (left
 abbrev pub carriedIn : Lines → List ℕ → List ℕ
 carriedIn l buffer = leftIn l buffer ++ drop (length (leftIn l buffer)) buffer
 
--- these bytes come first in those
-abbrev pub ComesFirst : List ℕ → List ℕ → Type 0
-ComesFirst first all = take (length first) all ≡ first
-
 -- one line more is taken
 abbrev pub passedOne : Lines → List ℕ → Lines
 passedOne l buffer = record { at = l .at + length (nextLine (leftIn l buffer)); end = l .end; over = l .over; failed = l .failed }
+
+-- lines and buffer, l and b, after the buffer was filled again where that was due
+pub record Pulled (l : Lines) (b : List ℕ) (r : Lines) (b′ : List ℕ) : Type 0 where
+  -- something is left, or the input is over
+  pub left : (hasLeft r || r .over) ≡ true
+  -- it was not due: nothing is changed
+  pub kept : r ≡ pick (isReady l b) l r
+  pub bytes : b′ ≡ pick (isReady l b) b b′
+  -- what was left comes first in what is left now
+  pub carried : take (length (leftIn l b)) (leftIn r b′) ≡ leftIn l b
 
 -- a temporary file, read from its start; an input, read from an offset on
 abbrev pub fromStart : ℤ → Source

@@ -1,11 +1,9 @@
 // The lines of an input, from a lent buffer that is filled again when the line that stands next is not all in it: what
 // is left is carried to the front.
 ghost use mathlib.Core.Path.{_≡_};
-ghost use mathlib.Core.Bool.{true, _||_};
 ghost use lib.ListN.{length};
-ghost use Rattle.machine.specs.Lists.{pick};
 ghost use Rattle.format.specs.Cutting.{nextLine};
-ghost use Rattle.streams.specs.Taking.{unread, hasLeft, leftIn, isReady, carriedIn, ComesFirst, passedOne};
+ghost use Rattle.streams.specs.Taking.{unread, leftIn, passedOne, isReady, carriedIn, Pulled};
 use crate::fill;
 use field::bytes::next_line;
 use field::bytes::part;
@@ -66,11 +64,7 @@ impl Lines {
     // Reads on where the line that stands next is not all in the buffer and the input of that name is not over: what
     // is left comes first, and the buffer is filled behind it.
     fn pulled(self, fd: i32, name: &[u8], buffer: &mut [u8]) -> Lines
-        ensures left { λ r. ⌜ (hasLeft r || r .over) ≡ true ⌝ }
-        ensures kept { λ r. ⌜ r ≡ pick (isReady self (now (buffer .entry))) self r ⌝ }
-        ensures bytes { λ r. ⌜ now (buffer .exit)
-            ≡ pick (isReady self (now (buffer .entry))) (now (buffer .entry)) (now (buffer .exit)) ⌝ }
-        ensures carried { λ r. ⌜ ComesFirst (leftIn self (now (buffer .entry))) (leftIn r (now (buffer .exit))) ⌝ }
+        ensures { λ r. ⌜ Pulled self (now (buffer .entry)) r (now (buffer .exit)) ⌝ }
     {
         if self.is_ready(buffer) {
             return self;
@@ -96,15 +90,7 @@ impl Lines {
     // After that line, so that the one after it stands next: before the first line, which is not read yet, that is the
     // first.
     pub fn next(self, fd: i32, name: &[u8], buffer: &mut [u8]) -> Lines
-        ensures left { λ r. ⌜ (hasLeft r || r .over) ≡ true ⌝ }
-        ensures kept { λ r. ⌜ r
-            ≡ pick (isReady (passedOne self (now (buffer .entry))) (now (buffer .entry)))
-            (passedOne self (now (buffer .entry))) r ⌝ }
-        ensures bytes { λ r. ⌜ now (buffer .exit)
-            ≡ pick (isReady (passedOne self (now (buffer .entry))) (now (buffer .entry)))
-            (now (buffer .entry)) (now (buffer .exit)) ⌝ }
-        ensures carried { λ r. ⌜ ComesFirst (leftIn (passedOne self (now (buffer .entry))) (now (buffer .entry)))
-            (leftIn r (now (buffer .exit))) ⌝ }
+        ensures { λ r. ⌜ Pulled (passedOne self (now (buffer .entry))) (now (buffer .entry)) r (now (buffer .exit)) ⌝ }
     {
         let line = self.line(buffer);
         let mut lines = self;

@@ -1,7 +1,7 @@
 -- What lines::Lines::pulled ensures, by the laws of Taking and Carrying.
 use borrow.Author.Needs.{needs}
-use Rattle.streams.proofs.Carrying.{carried-fits, carried-first}
-use Rattle.streams.proofs.Taking.{ready-left, kept-as-was, read-anew, all-first, some-filled}
+use Rattle.streams.proofs.Carrying.{carried-fits}
+use Rattle.streams.proofs.Taking.{pulled-ready, pulled-anew}
 use Rattle.streams.proofs.lines.Lines.pulled.Statement.{statement}
 use Rattle.streams.proofs.lines.Lines.pulled.Tie as tie
 
@@ -11,7 +11,7 @@ pulled-spec =
     (tie.spec
     (λ c κs. search needs)  -- is-ready-requires
     (λ c. search needs)  -- same-length
-    (λ c. (search ready-left, (search kept-as-was, (search kept-as-was, search all-first))))  -- returns
+    (λ c. search pulled-ready)  -- returns
     (λ c κs. search needs)  -- carry-requires
     (λ c. search (carried-fits, needs))  -- sub-fill
     (λ c. search (carried-fits, needs))  -- part-fill-start
@@ -19,5 +19,5 @@ pulled-spec =
     (λ c κs. search needs)  -- fill-requires
     (λ c. search needs)  -- add-end
     (λ c. search needs)  -- same-length-2
-    (λ c. (search some-filled, (search read-anew, (search read-anew, search carried-first))))  -- returns-2
+    (λ c. search pulled-anew)  -- returns-2
     )
