@@ -38,7 +38,7 @@ carriedIn l buffer = leftIn l buffer ++ drop (length (leftIn l buffer)) buffer
 abbrev pub passedOne : Lines → List ℕ → Lines
 passedOne l buffer = record { at = l .at + length (nextLine (leftIn l buffer)); end = l .end; over = l .over; failed = l .failed }
 
--- lines and buffer, l and b, after the buffer was filled again where that was due
+-- l with its buffer b became r with b′: the buffer was filled again where that was due
 pub record Pulled (l : Lines) (b : List ℕ) (r : Lines) (b′ : List ℕ) : Type 0 where
   -- something is left, or the input is over
   pub left : (hasLeft r || r .over) ≡ true

@@ -19,7 +19,8 @@ pub use twice::Source;
 pub use twice::again;
 pub use twice::rereadable;
 
-// The length of a buffer that lines are read into, or written from: a whole number of lines.
+// The length of a buffer that lines are read into, or written from: a whole number of lines, so that one that is
+// written from is full at a line's end.
 pub const BUFFER: usize = 65520;
 
 // An input: its descriptor, which is negative where it cannot be opened, and how many characters its name has.

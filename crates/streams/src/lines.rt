@@ -37,8 +37,8 @@ impl Lines {
         part(filled, self.at, filled.len())
     }
 
-    // Whether nothing has to be read before the line that stands next can be taken. A broken line is taken in pieces,
-    // each as long as a line: however long it is, its bytes are read once.
+    // Whether the line that stands next can be taken: all its bytes are in the buffer, or no more will come. That holds
+    // of a broken line too: no more bytes would make it whole.
     fn is_ready(self, buffer: &[u8]) -> bool
         ensures { λ r. ⌜ r ≡ isReady self (now (buffer .entry)) ⌝ }
     {
