@@ -1,41 +1,70 @@
 -- What is taken of a buffer, and how a program ends. Assumes nothing.
-use Prim.Native.Nat.{ℕ, zero, suc, _+_, _≤_, _<_, max}
-use mathlib.Core.Path.{_≡_, refl, ap, _∙_}
-use mathlib.Core.List.{List}
-use mathlib.Core.Bool.{true, _||_}
+use Prim.Native.Nat.{ℕ, zero, suc, _+_, _-_, _≤_, _<_, min, max}
+use mathlib.Core.Path.{_≡_, refl, sym, ap, subst, _∙_}
+use mathlib.Core.List.{List, _++_}
+use mathlib.Core.Bool.{Bool, true, false, _||_}
 use native.Mathlib.Omega.{arith}
-use borrow.Author.Tests.{lt-ltb, le-ltb}
+use borrow.Author.Tests.{leb-true, lt-ltb}
 use lib.ListN.{length, take, drop, length-take, length-drop}
-use lib.Dec.{ltb, eqb}
+use lib.Dec.{leb, ltb, eqb}
+use lib.Seq.{take-all, take-length}
 use Rattle.machine.specs.Lists.{pick}
 use Rattle.format.specs.Cutting.{cutOf, nextLine}
-use Rattle.streams.specs.Taking.{hasLeft, leftIn, passedOne}
+use Rattle.format.specs.declared.Cut.{Cut}
+use Rattle.format.proofs.Cutting.{cut-bytes}
+use Rattle.streams.specs.Taking.{leftIn, passedOne, isReady, carriedIn, Pulled}
 use Rattle.streams.specs.Status.{statusDigit}
 use Rattle.streams.specs.declared.lines.Lines.{Lines}
+use Rattle.streams.proofs.Carrying.{left-length, carried-first}
+
+-- ## What is left
+
+module _ {f r : List ℕ} (l : Lines) (buffer : List ℕ) where
+  pub left-taken : f ≡ take (l .end) (drop 0 buffer) → r ≡ take (length f) (drop (l .at) f) → r ≡ leftIn l buffer
+  left-taken e p = p ∙ take-all (length f) (drop (l .at) f) (omega (arith, length-drop (l .at) f)) ∙ ap (drop (l .at)) e
+
+pub ready-by : {x : List ℕ} {c : Cut} (l : Lines) (buffer : List ℕ) → x ≡ leftIn l buffer → c ≡ cutOf x → (l .over || leb (c .bytes) (length x)) ≡ isReady l buffer
+ready-by {x} l buffer e p = ap (λ (y : Cut). l .over || leb (y .bytes) (length x)) p ∙ ap (λ y. l .over || leb (cutOf y .bytes) (length y)) e
 
 -- ## Pulling
 
-module _ (l : Lines) where
-  pub left-some : l .at < l .end → (hasLeft l || l .over) ≡ true
-  left-some h = rw (lt-ltb (l .at) (l .end) h) refl
+or-true : (t : Bool) → (t || true) ≡ true
+or-true true = refl
+or-true false = refl
 
-  pub left-over : l .end ≤ l .at → l .over ≡ true → (hasLeft l || l .over) ≡ true
-  left-over h e = rw (le-ltb (l .at) (l .end) h, e) refl
+ready-some : (over : Bool) (c n at end m : ℕ) → 50 < c → n ≡ min end m - at → (over || leb c n) ≡ true → (ltb at end || over) ≡ true
+ready-some true c n at end m h e t = or-true (ltb at end)
+ready-some false c n at end m h e t = let k : c ≤ n = leb-true c n t in rw (lt-ltb at end (omega arith)) refl
 
-  module _ {A : Type 0} (x y : A) where
-    pub kept-as-was : l .at < l .end → x ≡ pick (hasLeft l) x y
-    unfolding pick
-    kept-as-was h = rw (lt-ltb (l .at) (l .end) h) refl
+some-filled : (n k m : ℕ) → (ltb 0 (n + k) || (eqb k 0 || ltb (n + k) m)) ≡ true
+some-filled n zero m = or-true (ltb 0 (n + 0))
+some-filled n (suc k) m = rw (lt-ltb 0 (n + suc k) (omega arith)) refl
 
-    pub read-anew : l .end ≤ l .at → y ≡ pick (hasLeft l) x y
-    unfolding pick
-    read-anew h = rw (le-ltb (l .at) (l .end) h) refl
+module _ {A : Type 0} {t : Bool} (x y : A) where
+  picked : t ≡ true → x ≡ pick t x y
+  unfolding pick
+  picked e = rw e refl
 
-pub some-filled : (n m : ℕ) → (ltb 0 n || (eqb n 0 || ltb n m)) ≡ true
-some-filled zero m = refl
-some-filled (suc n) m = rw (lt-ltb 0 (suc n) (omega arith)) refl
+  passed : t ≡ false → y ≡ pick t x y
+  unfolding pick
+  passed e = rw e refl
 
-pub ruleset pulls = (left-some, left-over, kept-as-was, read-anew, some-filled)
+module _ {t : Bool} (l : Lines) (b : List ℕ) (e : t ≡ isReady l b) where
+  pub pulled-ready : t ≡ true → Pulled l b l b
+  pulled-ready h =
+      let q : isReady l b ≡ true = sym e ∙ h in
+      record {
+        left = ready-some (l .over) _ _ (l .at) (l .end) (length b) (cut-bytes (leftIn l b) .0) (left-length l b) q;
+        kept = picked l l q;
+        bytes = picked b b q;
+        carried = take-length (leftIn l b);
+      }
+
+  pub pulled-anew : {n : ℕ} {now : List ℕ} (c m : ℕ) (failed : Bool) (read : List ℕ) → t ≡ false → n ≡ length (leftIn l b) → now ≡ carriedIn l b
+      → Pulled l b (record { at = 0; end = n + c; over = eqb c 0 || ltb (n + c) m; failed = failed }) (take n now ++ read)
+  pulled-anew {n} c m failed read h k f =
+      let q : isReady l b ≡ false = sym e ∙ h in
+      record { left = some-filled n c m; kept = passed l _ q; bytes = passed b _ q; carried = carried-first l b k f c read }
 
 -- ## The next line
 
@@ -53,13 +82,8 @@ module _ (l : Lines) (buffer r : List ℕ) (e : r ≡ nextLine (leftIn l buffer)
 abbrev movedTo : Lines → ℕ → Lines
 movedTo l at = record { at = at; end = l .end; over = l .over; failed = l .failed }
 
-pub next-kept : {r : List ℕ} {n : Lines} (l : Lines) (buffer : List ℕ) → r ≡ nextLine (leftIn l buffer) → n ≡ pick (hasLeft (movedTo l (l .at + length r))) (movedTo l (l .at + length r)) n
-    → n ≡ pick (hasLeft (passedOne l buffer)) (passedOne l buffer) n
-next-kept {n = n} l buffer e h = h ∙ ap (λ x. pick (hasLeft (movedTo l (l .at + length x))) (movedTo l (l .at + length x)) n) e
-
-pub next-bytes : {r b : List ℕ} (l : Lines) (buffer : List ℕ) → r ≡ nextLine (leftIn l buffer) → b ≡ pick (hasLeft (movedTo l (l .at + length r))) buffer b
-    → b ≡ pick (hasLeft (passedOne l buffer)) buffer b
-next-bytes {b = b} l buffer e h = h ∙ ap (λ x. pick (hasLeft (movedTo l (l .at + length x))) buffer b) e
+pub next-pulled : {r : List ℕ} {n : Lines} {b : List ℕ} (l : Lines) (buffer : List ℕ) → r ≡ nextLine (leftIn l buffer) → Pulled (movedTo l (l .at + length r)) buffer n b → Pulled (passedOne l buffer) buffer n b
+next-pulled {n = n} {b} l buffer e h = subst (λ x. Pulled (movedTo l (l .at + length x)) buffer n b) e h
 
 -- ## Status
 

@@ -19,7 +19,8 @@ pub use twice::Source;
 pub use twice::again;
 pub use twice::rereadable;
 
-// The length of a buffer that lines are read into, or written from: a whole number of lines.
+// The length of a buffer that lines are read into, or written from: a whole number of lines, so that one that is
+// written from is full at a line's end.
 pub const BUFFER: usize = 65520;
 
 // An input: its descriptor, which is negative where it cannot be opened, and how many characters its name has.
@@ -29,9 +30,9 @@ pub struct Input {
 }
 
 // How many bytes of a buffer were read, and whether a read failed.
-pub struct Filled {
-    pub count: usize,
-    pub failed: bool,
+struct Filled {
+    count: usize,
+    failed: bool,
 }
 
 fn open_named(name: &[u8]) -> i32 {
@@ -74,7 +75,7 @@ fn tell(name: &[u8]) {
     }
 }
 
-// One read into a buffer from a place on.
+// One read into a buffer, from an offset on.
 fn read_some(fd: i32, name: &[u8], buffer: &mut [u8], at: usize) -> Filled
     requires { ⌜ at ≤ length (now buffer) ⌝ }
     ensures { λ r. ⌜ at + r .count ≤ length (now (buffer .exit)) ⌝ }
@@ -89,7 +90,7 @@ fn read_some(fd: i32, name: &[u8], buffer: &mut [u8], at: usize) -> Filled
 }
 
 // Reads until the buffer is full, the input of that name ends, or a read fails.
-pub fn fill(fd: i32, name: &[u8], buffer: &mut [u8]) -> Filled
+pub(crate) fn fill(fd: i32, name: &[u8], buffer: &mut [u8]) -> Filled
     ensures { λ r. ⌜ Counts (r .count) (now (buffer .exit)) ⌝ }
 {
     let mut done: usize = 0;

@@ -1,9 +1,9 @@
-// The lines of an input, from a lent buffer that is filled again when all of it has been taken.
+// The lines of an input, from a lent buffer that is filled again when the line that stands next is not all in it: what
+// is left is carried to the front.
 ghost use mathlib.Core.Path.{_≡_};
-ghost use mathlib.Core.Bool.{true, _||_};
-ghost use Rattle.machine.specs.Lists.{pick};
+ghost use lib.ListN.{length};
 ghost use Rattle.format.specs.Cutting.{nextLine};
-ghost use Rattle.streams.specs.Taking.{unread, hasLeft, leftIn, passedOne};
+ghost use Rattle.streams.specs.Taking.{unread, leftIn, passedOne, isReady, carriedIn, Pulled};
 use crate::fill;
 use field::bytes::next_line;
 use field::bytes::part;
@@ -29,25 +29,53 @@ impl Lines {
         }
     }
 
-    // Reads on where all of the buffer is taken and the input of that name is not over. The buffer's length is a whole
-    // number of lines, so that none is cut but the last of an input.
-    fn pulled(self, fd: i32, name: &[u8], buffer: &mut [u8]) -> Lines
-        ensures left { λ r. ⌜ (hasLeft r || r .over) ≡ true ⌝ }
-        ensures kept { λ r. ⌜ r ≡ pick (hasLeft self) self r ⌝ }
-        ensures bytes { λ r. ⌜ now (buffer .exit) ≡ pick (hasLeft self) (now (buffer .entry)) (now (buffer .exit)) ⌝ }
+    // The bytes that are not taken yet.
+    fn left(self, buffer: &[u8]) -> &[u8]
+        ensures { λ r. ⌜ now r ≡ leftIn self (now (buffer .entry)) ⌝ }
     {
-        if self.at < self.end {
+        let filled = part(buffer, 0, self.end);
+        part(filled, self.at, filled.len())
+    }
+
+    // Whether the line that stands next can be taken: all its bytes are in the buffer, or no more will come. That holds
+    // of a broken line too: no more bytes would make it whole.
+    fn is_ready(self, buffer: &[u8]) -> bool
+        ensures { λ r. ⌜ r ≡ isReady self (now (buffer .entry)) ⌝ }
+    {
+        let left = self.left(buffer);
+        let cut = format::cut_of(left);
+        self.over | (cut.bytes <= left.len())
+    }
+
+    // Moves what is left to the front of the buffer; the bytes behind it stay. How many bytes were moved.
+    fn carry(self, buffer: &mut [u8]) -> usize
+        ensures count { λ r. ⌜ r ≡ length (leftIn self (now (buffer .entry))) ⌝ }
+        ensures bytes { λ r. ⌜ now (buffer .exit) ≡ carriedIn self (now (buffer .entry)) ⌝ }
+    {
+        let count = self.left(buffer).len();
+        let mut i: usize = 0;
+        while i < count {
+            buffer[i] = buffer[self.at + i];
+            i += 1;
+        }
+        count
+    }
+
+    // Reads on where the line that stands next is not all in the buffer and the input of that name is not over: what
+    // is left comes first, and the buffer is filled behind it.
+    fn pulled(self, fd: i32, name: &[u8], buffer: &mut [u8]) -> Lines
+        ensures { λ r. ⌜ Pulled self (now (buffer .entry)) r (now (buffer .exit)) ⌝ }
+    {
+        if self.is_ready(buffer) {
             return self;
         }
-        if self.over {
-            return self;
-        }
-        let filled = fill(fd, name, buffer);
-        let n = filled.count;
+        let n = self.carry(buffer);
+        let filled = fill(fd, name, &mut buffer[n..]);
+        let end = n + filled.count;
         Lines {
             at: 0,
-            end: n,
-            over: (n == 0) | (n < buffer.len()),
+            end,
+            over: (filled.count == 0) | (end < buffer.len()),
             failed: filled.failed,
         }
     }
@@ -62,11 +90,7 @@ impl Lines {
     // After that line, so that the one after it stands next: before the first line, which is not read yet, that is the
     // first.
     pub fn next(self, fd: i32, name: &[u8], buffer: &mut [u8]) -> Lines
-        ensures left { λ r. ⌜ (hasLeft r || r .over) ≡ true ⌝ }
-        ensures kept { λ r. ⌜ r
-            ≡ pick (hasLeft (passedOne self (now (buffer .entry)))) (passedOne self (now (buffer .entry))) r ⌝ }
-        ensures bytes { λ r. ⌜ now (buffer .exit)
-            ≡ pick (hasLeft (passedOne self (now (buffer .entry)))) (now (buffer .entry)) (now (buffer .exit)) ⌝ }
+        ensures { λ r. ⌜ Pulled (passedOne self (now (buffer .entry))) (now (buffer .entry)) r (now (buffer .exit)) ⌝ }
     {
         let line = self.line(buffer);
         let mut lines = self;

@@ -9,7 +9,7 @@ use field::bytes::part;
 use libc::SEEK_CUR;
 use libc::SEEK_SET;
 
-// A descriptor, which is negative where there is none, the place where both readings begin, and whether it is a
+// A descriptor, which is negative where there is none, the offset at which both readings begin, and whether it is a
 // temporary file's.
 pub struct Source {
     pub fd: i32,

@@ -6,7 +6,7 @@ use Rattle.items_main.proofs.seek_lines.Statement.{statement}
 use Rattle.items_main.proofs.seek_lines.Tie as tie
 
 abbrev Inv-loop : tie.InvT-loop
-Inv-loop fd name buffer₀ lines₀ sought₀ turns₀ buffer lines sought turns = length buffer ≡ 65520
+Inv-loop fd name buffer₀ lines₀ sought₀ turns₀ buffer lines sought turns = length buffer ≡ length buffer₀
 
 abbrev μ-loop : tie.MeasureT-loop
 μ-loop fd name buffer₀ lines₀ sought₀ turns₀ buffer lines sought turns = turns

@@ -6,7 +6,7 @@ use Rattle.listing_main.proofs.list_lines.Statement.{statement}
 use Rattle.listing_main.proofs.list_lines.Tie as tie
 
 abbrev Inv-loop : tie.InvT-loop
-Inv-loop fd name page₀ buffer₀ lines₀ listed₀ turns₀ page buffer lines listed turns = (length page ≡ length page₀) × (length buffer ≡ 65520)
+Inv-loop fd name page₀ buffer₀ lines₀ listed₀ turns₀ page buffer lines listed turns = (length page ≡ length page₀) × (length buffer ≡ length buffer₀)
 
 abbrev μ-loop : tie.MeasureT-loop
 μ-loop fd name page₀ buffer₀ lines₀ listed₀ turns₀ page buffer lines listed turns = turns

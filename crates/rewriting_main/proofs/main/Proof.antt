@@ -7,7 +7,7 @@ use Rattle.rewriting_main.proofs.main.Statement.{statement}
 use Rattle.rewriting_main.proofs.main.Tie as tie
 
 abbrev Inv-loop : tie.InvT-loop
-Inv-loop page₀ arguments several status₀ i₀ page status i = length page ≡ 65520
+Inv-loop page₀ arguments several status₀ i₀ page status i = length page ≡ length page₀
 
 abbrev μ-loop : tie.MeasureT-loop
 μ-loop page₀ arguments several status₀ i₀ page status i = arguments - i

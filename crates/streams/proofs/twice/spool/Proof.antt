@@ -6,7 +6,7 @@ use Rattle.streams.proofs.twice.spool.Statement.{statement}
 use Rattle.streams.proofs.twice.spool.Tie as tie
 
 abbrev Inv-loop : tie.InvT-loop
-Inv-loop fd name to buffer₀ turns₀ buffer turns = length buffer ≡ 65520
+Inv-loop fd name to buffer₀ turns₀ buffer turns = length buffer ≡ length buffer₀
 
 abbrev μ-loop : tie.MeasureT-loop
 μ-loop fd name to buffer₀ turns₀ buffer turns = turns

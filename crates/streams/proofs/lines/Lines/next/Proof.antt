@@ -1,6 +1,6 @@
 -- What lines::Lines::next ensures, by the laws of Taking.
 use borrow.Author.Needs.{needs}
-use Rattle.streams.proofs.Taking.{next-inside, next-kept, next-bytes}
+use Rattle.streams.proofs.Taking.{next-inside, next-pulled}
 use Rattle.streams.proofs.lines.Lines.next.Statement.{statement}
 use Rattle.streams.proofs.lines.Lines.next.Tie as tie
 
@@ -12,5 +12,5 @@ next-spec =
     (λ c. search (next-inside (c .before .before .before .before .before .args .self) _ _ (c .before .line .ensures), needs))  -- add-lines
     (λ c κs. search needs)  -- pulled-requires
     (λ c. search needs)  -- same-length
-    (λ c. (search needs, (search next-kept, search next-bytes)))  -- returns
+    (λ c. search next-pulled)  -- returns
     )
