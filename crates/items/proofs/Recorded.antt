@@ -14,6 +14,7 @@ use Rattle.format.specs.Records.{layout, code, Fields}
 use Rattle.format.specs.Language.{Rec, Ending, endBytes, lineOf, linesOf}
 use Rattle.format.specs.declared.Kind.{Kind}
 use Rattle.format.specs.declared.Kind.the-variants.{FileHeader, BatchHeaderB, BatchHeaderC, FixedDescription, OrderingParty, Transaction, NamePayer, CityPayer, PaymentReference, Description, NameBeneficiary, CityBeneficiary, BatchTrailer, FileTrailer}
+use Rattle.format.proofs.Every.{every}
 use Rattle.format.proofs.Cutting.{lines-line}
 use Rattle.format.proofs.Checks.{field-read}
 use Rattle.format.proofs.Link.{line-widths, is-line}
@@ -76,20 +77,8 @@ afterFor s FileTrailer x = s
 
 by-kind : (s : Search) (line : List ℕ) (k : Kind) → take 5 line ≡ code k → afterLine s line ≡ afterFor s k (valuesOf k line)
 unfolding afterLine isName isHeader same pick
-by-kind s line FileHeader e = rw e
-by-kind s line BatchHeaderB e = rw e
-by-kind s line BatchHeaderC e = rw e
-by-kind s line FixedDescription e = rw e
-by-kind s line OrderingParty e = rw e
-by-kind s line Transaction e = rw e
-by-kind s line NamePayer e = rw e
-by-kind s line CityPayer e = rw e
-by-kind s line PaymentReference e = rw e
-by-kind s line Description e = rw e
-by-kind s line NameBeneficiary e = rw e
-by-kind s line CityBeneficiary e = rw e
-by-kind s line BatchTrailer e = rw e
-by-kind s line FileTrailer e = rw e
+by-kind s line =
+    every (λ k. take 5 line ≡ code k → afterLine s line ≡ afterFor s k (valuesOf k line)) (λ e. rw e) (λ e. rw e) (λ e. rw e) (λ e. rw e) (λ e. rw e) (λ e. rw e) (λ e. rw e) (λ e. rw e) (λ e. rw e) (λ e. rw e) (λ e. rw e) (λ e. rw e) (λ e. rw e) (λ e. rw e)
 
 line-back : (s : Search) (k : Kind) (x : Fields k) (z : List ℕ) → Fits (layout k) x → afterLine s (lineOf z (k, x)) ≡ afterFor s k x
 line-back s k x z h =

@@ -17,10 +17,11 @@ use Rattle.format.specs.Cutting.{cutOf, nextLine, afterNext, linesFrom, linesIn
 use Rattle.format.specs.Records.{type, amount, payer, beneficiary}
 use Rattle.format.specs.Rules.{typeOf, isType}
 use Rattle.format.specs.declared.Kind.{Kind}
-use Rattle.format.specs.declared.Kind.the-variants.{FileHeader, BatchHeaderB, BatchHeaderC, FixedDescription, OrderingParty, Transaction, NamePayer, CityPayer, PaymentReference, Description, NameBeneficiary, CityBeneficiary, BatchTrailer, FileTrailer}
+use Rattle.format.specs.declared.Kind.the-variants.{Transaction}
 use Rattle.format.specs.declared.Code.the-variants.{Of}
 use Rattle.format.specs.declared.TypeRead.{TypeRead}
 use Rattle.format.specs.declared.TypeRead.the-variants as types
+use Rattle.format.proofs.Every.{every}
 use Rattle.format.proofs.Cutting.{Lined, no-line, one-line, lined, lines-whole}
 use Rattle.field.proofs.Putting.{pasted-front}
 use Rattle.record.specs.Faults.{fieldsOf, faultOf}
@@ -141,20 +142,9 @@ item-entry types.NoType n p b h = absurd (true≢false (sym h))
 
 has-entry : (p : Before) (b : Batch) (k : Kind) (l : List ℕ) → faultOf p b k l .number ≡ 0 → isSome (entryOf (recordFor k (fieldsOf k l))) ≡ not (isCityKind k)
 unfolding isCity same
-has-entry p b FileHeader l f = refl
-has-entry p b BatchHeaderB l f = refl
-has-entry p b BatchHeaderC l f = refl
-has-entry p b FixedDescription l f = refl
-has-entry p b OrderingParty l f = refl
-has-entry p b Transaction l f = let x = fieldsOf Transaction l in item-entry (typeOf (type x)) (amount x) (payer x) (beneficiary x) (type-known p b l f)
-has-entry p b NamePayer l f = refl
-has-entry p b CityPayer l f = refl
-has-entry p b PaymentReference l f = refl
-has-entry p b Description l f = refl
-has-entry p b NameBeneficiary l f = refl
-has-entry p b CityBeneficiary l f = refl
-has-entry p b BatchTrailer l f = refl
-has-entry p b FileTrailer l f = refl
+has-entry p b k l f =
+    every (λ k. faultOf p b k l .number ≡ 0 → isSome (entryOf (recordFor k (fieldsOf k l))) ≡ not (isCityKind k)) (λ f. refl) (λ f. refl) (λ f. refl) (λ f. refl) (λ f. refl)
+    (λ f. let x = fieldsOf Transaction l in item-entry (typeOf (type x)) (amount x) (payer x) (beneficiary x) (type-known p b l f)) (λ f. refl) (λ f. refl) (λ f. refl) (λ f. refl) (λ f. refl) (λ f. refl) (λ f. refl) (λ f. refl) k f
 
 abbrev readAs : State → (k : Kind) → List ℕ → LineRead
 readAs s k xs = readBy (take 50 xs) (Of k) (taken k (nextBy s k xs))

@@ -8,10 +8,10 @@ use borrow.Author.Tests.{leb-true, lt-ltb}
 use lib.ListN.{length, take, drop, length-take, length-drop}
 use lib.Dec.{leb, ltb, eqb}
 use lib.Seq.{take-all, take-length}
-use Rattle.machine.specs.Lists.{pick}
 use Rattle.format.specs.Cutting.{cutOf, nextLine}
 use Rattle.format.specs.declared.Cut.{Cut}
 use Rattle.format.proofs.Cutting.{cut-bytes}
+use Rattle.field.proofs.Picks.{pick-yes, pick-no}
 use Rattle.streams.specs.Taking.{leftIn, passedOne, isReady, carriedIn, Pulled}
 use Rattle.streams.specs.Status.{statusDigit}
 use Rattle.streams.specs.declared.lines.Lines.{Lines}
@@ -40,23 +40,14 @@ some-filled : (n k m : ℕ) → (ltb 0 (n + k) || (eqb k 0 || ltb (n + k) m)) �
 some-filled n zero m = or-true (ltb 0 (n + 0))
 some-filled n (suc k) m = rw (lt-ltb 0 (n + suc k) (omega arith)) refl
 
-module _ {A : Type 0} {t : Bool} (x y : A) where
-  picked : t ≡ true → x ≡ pick t x y
-  unfolding pick
-  picked e = rw e refl
-
-  passed : t ≡ false → y ≡ pick t x y
-  unfolding pick
-  passed e = rw e refl
-
 module _ {t : Bool} (l : Lines) (b : List ℕ) (e : t ≡ isReady l b) where
   pub pulled-ready : t ≡ true → Pulled l b l b
   pulled-ready h =
       let q : isReady l b ≡ true = sym e ∙ h in
       record {
         left = ready-some (l .over) _ _ (l .at) (l .end) (length b) (cut-bytes (leftIn l b) .0) (left-length l b) q;
-        kept = picked l l q;
-        bytes = picked b b q;
+        kept = pick-yes (isReady l b) l l q refl;
+        bytes = pick-yes (isReady l b) b b q refl;
         carried = take-length (leftIn l b);
       }
 
@@ -64,7 +55,7 @@ module _ {t : Bool} (l : Lines) (b : List ℕ) (e : t ≡ isReady l b) where
       → Pulled l b (record { at = 0; end = n + c; over = eqb c 0 || ltb (n + c) m; failed = failed }) (take n now ++ read)
   pulled-anew {n} c m failed read h k f =
       let q : isReady l b ≡ false = sym e ∙ h in
-      record { left = some-filled n c m; kept = passed l _ q; bytes = passed b _ q; carried = carried-first l b k f c read }
+      record { left = some-filled n c m; kept = pick-no (isReady l b) l _ q refl; bytes = pick-no (isReady l b) b _ q refl; carried = carried-first l b k f c read }
 
 -- ## The next line
 

@@ -9,7 +9,7 @@ pub exactly-answer-spec : {M : Type 1} → statement M
 exactly-answer-spec =
     tie.close
     (tie.spec
-    (λ c κs. search needs)  -- filled-no-requires
+    (λ c κs. search needs)  -- filled-answer-requires
     (λ c. search form-stop)  -- returns
     (λ c κs. search needs)  -- part-requires
     (λ c κs. search needs)  -- is-same-requires

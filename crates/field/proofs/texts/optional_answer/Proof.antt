@@ -12,6 +12,6 @@ optional-answer-spec =
     (λ c κs. search needs)  -- part-requires
     (λ c κs. search needs)  -- is-blank-requires
     (λ c. search (form-yes, both-are, blank-prints, first-holds, by-call) depth 4)  -- returns
-    (λ c κs. search needs)  -- filled-no-requires
+    (λ c κs. search needs)  -- filled-answer-requires
     (λ c. search (optional-filled, by-call) depth 2)  -- returns-2
     )

@@ -12,7 +12,7 @@ ended-spec =
     tie.close
     (tie.spec
     (λ c κs. search needs)  -- is-within-requires
-    (λ c κs. search needs)  -- is-stage-requires
+    (λ c κs. search needs)  -- is-done-requires
     (λ c κs. search needs)  -- accepted-requires
     (λ c. search picks depth 20 fits 10000)  -- returns
     (λ c. search line-fits depth 20 fits 10000)  -- add-refusal

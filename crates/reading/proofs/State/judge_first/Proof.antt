@@ -11,7 +11,7 @@ judge-first-spec =
     (tie.spec
     (λ c κs. search needs)  -- refused-requires
     (λ c. search (firsts, limits) depth 20 fits 10000)  -- returns
-    (λ c κs. search needs)  -- is-stage-requires
+    (λ c κs. search needs)  -- is-done-requires
     (λ c κs. search needs)  -- refused-requires-2
     (λ c. search (firsts, limits) depth 20 fits 10000)  -- returns-2
     (λ c κs. search needs)  -- cut-of-requires

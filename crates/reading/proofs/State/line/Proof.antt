@@ -12,7 +12,7 @@ line-spec =
     (λ c κs. search needs)  -- nothing-read-requires
     (λ c. search step-none depth 20 fits 10000)  -- returns
     (λ c κs. search needs)  -- part-requires
-    (λ c κs. search needs)  -- part-requires-2
+    (λ c κs. search needs)  -- next-line-requires
     (λ c κs. search needs)  -- lines-requires
     (λ c. search needs)  -- enum-known-code
     (λ c κs. search needs)  -- accepted-requires

@@ -9,6 +9,6 @@ unfolding isLimited
 is-limited-spec =
     tie.close
     (tie.spec
-    (λ c. search needs)  -- cast
+    (λ c. search needs)  -- cast-result
     (λ c. search needs)  -- returns
     )

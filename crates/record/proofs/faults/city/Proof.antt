@@ -10,7 +10,7 @@ unfolding fieldsFault firstFault
 city-spec =
     tie.close
     (tie.spec
-    (λ c κs. search needs)  -- free-no-requires
+    (λ c κs. search needs)  -- free-answer-requires
     (λ c κs. search needs)  -- last-requires
     (λ c. search ends depth 20 fits 10000)  -- returns
     )

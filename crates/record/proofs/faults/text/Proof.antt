@@ -11,10 +11,10 @@ unfolding textFault firstFault
 text-spec =
     tie.close
     (tie.spec
-    (λ c κs. search needs)  -- filled-no-requires
+    (λ c κs. search needs)  -- filled-answer-requires
     (λ c κs. search needs)  -- fault-requires
     (λ c. search rows depth 20 fits 10000)  -- returns
-    (λ c κs. search needs)  -- filler-no-requires
+    (λ c κs. search needs)  -- filler-answer-requires
     (λ c κs. search needs)  -- last-requires
     (λ c. search ends depth 20 fits 10000)  -- returns-2
     )

@@ -18,7 +18,7 @@ record-in-spec =
     (λ c. search needs)  -- enum-told-5
     (λ c κs. search needs)  -- ordering-party-at-requires
     (λ c. search needs)  -- enum-told-6
-    (λ c κs. search needs)  -- item-at-requires
+    (λ c κs. search needs)  -- transaction-record-at-requires
     (λ c. search needs)  -- enum-told-7
     (λ c. search needs)  -- enum-told-8
     (λ c. search needs)  -- enum-told-9

@@ -9,7 +9,7 @@ pub group-answer-spec : {M : Type 1} → statement M
 group-answer-spec =
     tie.close
     (tie.spec
-    (λ c κs. search needs)  -- filled-no-requires
+    (λ c κs. search needs)  -- filled-answer-requires
     (λ c. search form-stop depth 20 fits 10000)  -- returns
     (λ c κs. search needs)  -- part-requires
     (λ c κs. search needs)  -- is-group-requires

@@ -8,7 +8,7 @@ pub type-answer-spec : {M : Type 1} → statement M
 type-answer-spec =
     tie.close
     (tie.spec
-    (λ c κs. search needs)  -- filled-no-requires
+    (λ c κs. search needs)  -- filled-answer-requires
     (λ c. search form-stop)  -- returns
     (λ c κs. search needs)  -- type-fault-requires
     (λ c. search form-on)  -- returns-2

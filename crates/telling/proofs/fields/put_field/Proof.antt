@@ -14,7 +14,7 @@ put-field-spec =
     (λ c κs. search needs)  -- put-text-requires
     (λ c. search needs)  -- same-length
     (λ c. search tells depth 20 fits 10000)  -- returns
-    (λ c κs. search needs)  -- put-in-requires
+    (λ c κs. search needs)  -- put-after-requires
     (λ c. search needs)  -- same-length-2
     (λ c. search tells depth 20 fits 10000)  -- returns-2
     )

@@ -12,23 +12,23 @@ unfolding firstFault
 batch-header-spec =
     tie.close
     (tie.spec
-    (λ c κs. search needs)  -- group-no-requires
+    (λ c κs. search needs)  -- group-answer-requires
     (λ c κs. search needs)  -- fault-requires
     (λ c. search (rows, header-via) depth 20 fits 10000)  -- returns
     (λ c κs. search needs)  -- ordering-requires
     (λ c κs. search needs)  -- fault-requires-2
     (λ c. search (rows, header-via) depth 20 fits 10000)  -- returns-2
-    (λ c κs. search needs)  -- sequence-no-requires
+    (λ c κs. search needs)  -- sequence-answer-requires
     (λ c κs. search needs)  -- fault-requires-3
     (λ c. search (rows, header-via) depth 20 fits 10000)  -- returns-3
-    (λ c. search needs)  -- slice-aggregate-exactly-no
-    (λ c κs. search needs)  -- exactly-no-requires
+    (λ c. search needs)  -- slice-aggregate-exactly-answer
+    (λ c κs. search needs)  -- exactly-answer-requires
     (λ c κs. search needs)  -- fault-requires-4
     (λ c. search (rows, header-via) depth 20 fits 10000)  -- returns-4
-    (λ c κs. search needs)  -- batch-identification-no-requires
+    (λ c κs. search needs)  -- batch-identification-answer-requires
     (λ c κs. search needs)  -- fault-requires-5
     (λ c. search (rows, header-via) depth 20 fits 10000)  -- returns-5
-    (λ c κs. search needs)  -- filler-no-requires
+    (λ c κs. search needs)  -- filler-answer-requires
     (λ c κs. search needs)  -- last-requires
     (λ c. search (ends, header-via) depth 20 fits 10000)  -- returns-6
     )

@@ -8,8 +8,8 @@ pub batch-identification-answer-spec : {M : Type 1} → statement M
 batch-identification-answer-spec =
     tie.close
     (tie.spec
-    (λ c κs. search needs)  -- filled-no-requires
-    (λ c κs. search needs)  -- filler-no-requires
+    (λ c κs. search needs)  -- filled-answer-requires
+    (λ c κs. search needs)  -- filler-answer-requires
     (λ c. search pick-yes depth 1)  -- returns
     (λ c. search pick-no depth 1)  -- returns-2
     )

@@ -11,16 +11,16 @@ unfolding fieldsFault firstFault
 batch-trailer-spec =
     tie.close
     (tie.spec
-    (λ c κs. search needs)  -- total-no-requires
+    (λ c κs. search needs)  -- total-answer-requires
     (λ c κs. search needs)  -- fault-requires
     (λ c. search rows depth 20 fits 10000)  -- returns
-    (λ c κs. search needs)  -- equal-no-requires
+    (λ c κs. search needs)  -- equal-answer-requires
     (λ c κs. search needs)  -- fault-requires-2
     (λ c. search rows depth 20 fits 10000)  -- returns-2
-    (λ c κs. search needs)  -- total-no-requires-2
+    (λ c κs. search needs)  -- total-answer-requires-2
     (λ c κs. search needs)  -- fault-requires-3
     (λ c. search rows depth 20 fits 10000)  -- returns-3
-    (λ c κs. search needs)  -- filler-no-requires
+    (λ c κs. search needs)  -- filler-answer-requires
     (λ c κs. search needs)  -- last-requires
     (λ c. search ends depth 20 fits 10000)  -- returns-4
     )

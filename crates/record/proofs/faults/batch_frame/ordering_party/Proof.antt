@@ -11,19 +11,19 @@ unfolding fieldsFault firstFault
 ordering-party-spec =
     tie.close
     (tie.spec
-    (λ c κs. search needs)  -- name-code-no-requires
+    (λ c κs. search needs)  -- name-code-answer-requires
     (λ c κs. search needs)  -- fault-requires
     (λ c. search rows depth 20 fits 10000)  -- returns
-    (λ c κs. search needs)  -- desired-no-requires
+    (λ c κs. search needs)  -- desired-answer-requires
     (λ c κs. search needs)  -- fault-requires-2
     (λ c. search rows depth 20 fits 10000)  -- returns-2
-    (λ c κs. search needs)  -- optional-no-requires
+    (λ c κs. search needs)  -- optional-answer-requires
     (λ c κs. search needs)  -- fault-requires-3
     (λ c. search rows depth 20 fits 10000)  -- returns-3
-    (λ c κs. search needs)  -- test-code-no-requires
+    (λ c κs. search needs)  -- test-code-answer-requires
     (λ c κs. search needs)  -- fault-requires-4
     (λ c. search rows depth 20 fits 10000)  -- returns-4
-    (λ c κs. search needs)  -- filler-no-requires
+    (λ c κs. search needs)  -- filler-answer-requires
     (λ c κs. search needs)  -- last-requires
     (λ c. search ends depth 20 fits 10000)  -- returns-5
     )

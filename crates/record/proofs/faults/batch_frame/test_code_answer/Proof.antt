@@ -11,7 +11,7 @@ unfolding isTestCode
 test-code-answer-spec =
     tie.close
     (tie.spec
-    (λ c κs. search needs)  -- filled-no-requires
+    (λ c κs. search needs)  -- filled-answer-requires
     (λ c. search form-stop)  -- returns
     (λ c κs. search needs)  -- part-requires
     (λ c. search needs)  -- slice-aggregate-is-same

@@ -15,20 +15,20 @@ file-header-spec =
     (λ c κs. search needs)  -- date-requires
     (λ c κs. search needs)  -- fault-requires
     (λ c. search rows depth 20 fits 10000)  -- returns
-    (λ c. search needs)  -- slice-aggregate-exactly-no
-    (λ c κs. search needs)  -- exactly-no-requires
+    (λ c. search needs)  -- slice-aggregate-exactly-answer
+    (λ c κs. search needs)  -- exactly-answer-requires
     (λ c κs. search needs)  -- fault-requires-2
     (λ c. search rows depth 20 fits 10000)  -- returns-2
-    (λ c κs. search needs)  -- filled-no-requires
+    (λ c κs. search needs)  -- filled-answer-requires
     (λ c κs. search needs)  -- fault-requires-3
     (λ c. search rows depth 20 fits 10000)  -- returns-3
-    (λ c κs. search needs)  -- identification-no-requires
+    (λ c κs. search needs)  -- identification-answer-requires
     (λ c κs. search needs)  -- fault-requires-4
     (λ c. search (rows, identification-row) depth 20 fits 10000)  -- returns-4
     (λ c κs. search needs)  -- ranged-requires
     (λ c κs. search needs)  -- fault-requires-5
     (λ c. search (rows, identification-row) depth 20 fits 10000)  -- returns-5
-    (λ c κs. search needs)  -- filler-no-requires
+    (λ c κs. search needs)  -- filler-answer-requires
     (λ c κs. search needs)  -- last-requires
     (λ c. search (ends, identification-row) depth 20 fits 10000)  -- returns-6
     )

@@ -11,7 +11,7 @@ pub identification-answer-spec : {M : Type 1} → statement M
 identification-answer-spec =
     tie.close
     (tie.spec
-    (λ c κs. search needs)  -- filled-no-requires
+    (λ c κs. search needs)  -- filled-answer-requires
     (λ c. search form-stop)  -- returns
     (λ c κs. search needs)  -- part-requires
     (λ c κs. search needs)  -- is-digits-requires

@@ -12,7 +12,7 @@ transaction-in-spec =
     tie.close
     (tie.spec
     (λ c κs. search needs)  -- type-in-requires
-    (λ c κs. search needs)  -- type-no-requires
+    (λ c κs. search needs)  -- type-answer-requires
     (λ c κs. search needs)  -- no-transaction-requires
     (λ c. search (rows, type-row) depth 20 fits 10000)  -- returns
     (λ c κs. search needs)  -- amount-in-requires
@@ -24,7 +24,7 @@ transaction-in-spec =
     (λ c κs. search needs)  -- beneficiary-in-requires
     (λ c κs. search needs)  -- no-transaction-requires-4
     (λ c. search (rows, type-row) depth 20 fits 10000)  -- returns-4
-    (λ c κs. search needs)  -- filler-no-requires
+    (λ c κs. search needs)  -- filler-answer-requires
     (λ c κs. search needs)  -- no-transaction-requires-5
     (λ c. search (rows, type-row) depth 20 fits 10000)  -- returns-5
     (λ c κs. search needs)  -- transaction-of-requires
