@@ -16,15 +16,20 @@ pub struct Month {
     /// 1: a checked salary; 2: an unchecked salary and its name; 7: a
     /// creditor with reference, three descriptions, name and city.
     pub lines: u64,
+    /// How each line ends: [`THIRTEEN_TEN`] or [`TEN`].
+    pub end: &'static str,
 }
+
+pub const THIRTEEN_TEN: &str = "\r\n";
+pub const TEN: &str = "\n";
 
 impl Month {
     pub fn write(&self, out: &mut impl Write) -> io::Result<()> {
-        line(out, "0001A310309CLIEOP03NACHT31011")?;
+        self.line(out, "0001A310309CLIEOP03NACHT31011")?;
         for batch in 1..=self.batches {
             self.batch(out, batch)?;
         }
-        line(out, "9999A")
+        self.line(out, "9999A")
     }
 
     /// How many lines the file has.
@@ -33,9 +38,9 @@ impl Month {
     }
 
     fn batch(&self, out: &mut impl Write, sequence: u64) -> io::Result<()> {
-        line(out, &format!("0010B00{ORDERING_ACCOUNT:010}{sequence:04}EUR"))?;
-        line(out, "0020ASALARIS MAART")?;
-        line(out, &format!("0030B1000000{:35}P", "KANTOOR NOORD"))?;
+        self.line(out, &format!("0010B00{ORDERING_ACCOUNT:010}{sequence:04}EUR"))?;
+        self.line(out, "0020ASALARIS MAART")?;
+        self.line(out, &format!("0030B1000000{:35}P", "KANTOOR NOORD"))?;
         let mut total = 0;
         for item in 0..self.items {
             let amount = 100_000 + item * 7 % 900_000;
@@ -43,7 +48,7 @@ impl Month {
             self.item(out, amount, item)?;
         }
         let accounts = self.items * (ORDERING_ACCOUNT + OTHER_ACCOUNT) % TEN_DIGITS;
-        line(out, &format!("9990A{total:018}{accounts:010}{:07}", self.items))
+        self.line(out, &format!("9990A{total:018}{accounts:010}{:07}", self.items))
     }
 
     fn item(&self, out: &mut impl Write, amount: u64, item: u64) -> io::Result<()> {
@@ -52,23 +57,23 @@ impl Month {
             2 => "0003",
             _ => "0000",
         };
-        line(out, &format!("0100A{kind}{amount:012}{ORDERING_ACCOUNT:010}{OTHER_ACCOUNT:010}"))?;
+        self.line(out, &format!("0100A{kind}{amount:012}{ORDERING_ACCOUNT:010}{OTHER_ACCOUNT:010}"))?;
         if self.lines == 7 {
-            line(out, &format!("0150A{item:016}"))?;
-            line(out, "0160AFACTUUR VAN DE MAAND")?;
-            line(out, "0160ABEDRAG VOLGENS OPGAVE")?;
-            line(out, "0160AMET DANK")?;
+            self.line(out, &format!("0150A{item:016}"))?;
+            self.line(out, "0160AFACTUUR VAN DE MAAND")?;
+            self.line(out, "0160ABEDRAG VOLGENS OPGAVE")?;
+            self.line(out, "0160AMET DANK")?;
         }
         if self.lines > 1 {
-            line(out, "0170BJ DE VRIES EN ZONEN")?;
+            self.line(out, "0170BJ DE VRIES EN ZONEN")?;
         }
         if self.lines == 7 {
-            line(out, "0173BGRONINGEN")?;
+            self.line(out, "0173BGRONINGEN")?;
         }
         Ok(())
     }
-}
 
-fn line(out: &mut impl Write, text: &str) -> io::Result<()> {
-    write!(out, "{text:50}\r\n")
+    fn line(&self, out: &mut impl Write, text: &str) -> io::Result<()> {
+        write!(out, "{text:50}{}", self.end)
+    }
 }

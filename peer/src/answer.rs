@@ -4,7 +4,7 @@
 pub mod number {
     /// Accepted.
     pub const ACCEPTED: u8 = 0;
-    /// Fewer than 52 bytes remain, or no 13 and 10 at 51 and 52.
+    /// Neither line end after 50 characters, or not that of the first line.
     pub const LINE: u8 = 1;
     /// Code and variant are not in the record table.
     pub const UNKNOWN_RECORD: u8 = 2;

@@ -1,36 +1,51 @@
 //! A whole file at once.
 
+use std::convert::Infallible;
+
 use crate::answer::Answer;
+use crate::ending::Ending;
 use crate::records::Record;
-use crate::state::{State, LINE_LENGTH};
+use crate::state::State;
 
 /// The answer for a whole file: 0 with its number of lines, or the first
 /// refusal.
 pub fn check(file: &[u8]) -> Answer {
-    match each(file, |_, _| Ok::<(), std::convert::Infallible>(())) {
-        Ok(answer) => answer,
-        Err(never) => match never {},
-    }
+    read(file, |_| {}).answer
 }
 
-/// Reads a file to its end or first refusal. `visit` sees each record
-/// accepted, with the state after it, and can stop the reading with an error
-/// of its own.
+/// A file read to its end or first refusal.
+pub(crate) struct FileRead<'a> {
+    pub answer: Answer,
+    /// How the lines read end.
+    pub ending: Ending,
+    /// What was not read: it begins with the line refused.
+    pub rest: &'a [u8],
+}
+
+/// Reads a file; `see` is shown each record accepted.
+pub(crate) fn read(file: &[u8], mut see: impl FnMut(&Record)) -> FileRead<'_> {
+    let Ok(read) = each(file, |_, record| {
+        see(record);
+        Ok::<(), Infallible>(())
+    });
+    read
+}
+
+/// Reads a file. `visit` sees each record accepted, with the state after it,
+/// and can stop the reading with an error of its own.
 pub(crate) fn each<E>(
     file: &[u8],
     mut visit: impl FnMut(&State, &Record) -> Result<(), E>,
-) -> Result<Answer, E> {
+) -> Result<FileRead<'_>, E> {
     let mut state = State::new();
     let mut rest = file;
     loop {
-        let read = state.line(rest);
-        match read.record {
-            Some(record) => {
-                visit(&read.state, &record)?;
-                state = read.state;
-                rest = &rest[LINE_LENGTH..];
-            }
-            None => return Ok(read.answer),
-        }
+        let line = state.line(rest);
+        let Some(record) = line.record else {
+            return Ok(FileRead { answer: line.answer, ending: state.ending, rest });
+        };
+        visit(&line.state, &record)?;
+        state = line.state;
+        rest = &rest[line.taken..];
     }
 }

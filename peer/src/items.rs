@@ -1,7 +1,7 @@
 //! One item of one batch, with the descriptions that belong to it.
 
 use crate::answer::{number, Answer};
-use crate::check::each;
+use crate::check::read;
 use crate::records::{Record, Transaction, TransactionType};
 
 /// The bytes the descriptions of an item fill: four of 32.
@@ -140,14 +140,7 @@ impl Search {
 /// 0 `out` stays as it was; bytes beyond the first 128 always do.
 pub fn item(file: &[u8], batch: u64, item: u64, out: &mut [u8]) -> Item {
     let mut search = Search::new(batch, item);
-    let read = each(file, |_, record| {
-        search.see(record);
-        Ok::<(), std::convert::Infallible>(())
-    });
-    let answer = match read {
-        Ok(answer) => answer,
-        Err(never) => match never {},
-    };
+    let answer = read(file, |record| search.see(record)).answer;
     if !answer.is_accepted() {
         return Item::refused(answer);
     }

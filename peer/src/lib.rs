@@ -1,7 +1,8 @@
 //! A second, independent reader and writer of CLIEOP03 files.
 //!
-//! It was written from the scope paper alone (01-scope.md), to be compared
-//! file by file with another program. Where the paper left a choice, NOTES.md
+//! It was written from the scope paper (01-scope.md) and the requests that
+//! changed it (02-change-requests.md) alone, to be compared file by file with
+//! another program. Where the paper left a choice, NOTES.md
 //! says what was chosen and which sentence led there.
 //!
 //! * [`check`] reads a whole file and gives one answer;
@@ -15,6 +16,7 @@
 
 mod answer;
 mod check;
+mod ending;
 mod fields;
 mod items;
 mod listing;
@@ -27,6 +29,7 @@ mod writer;
 
 pub use answer::{number, Answer};
 pub use check::check;
+pub use ending::Ending;
 pub use fields::{date_exists, eleven_check};
 pub use items::{item, Item, DESCRIPTION_ROOM};
 pub use listing::{list, list_answer, list_item};
@@ -35,5 +38,5 @@ pub use records::{
     Transaction, TransactionType, Variant,
 };
 pub use report::report;
-pub use state::{LineRead, Place, State, LINE_LENGTH, LONGEST_FILE};
-pub use writer::{rewrite, Entry, Rewritten, Writer, Written};
+pub use state::{LineRead, Place, State, LONGEST_FILE};
+pub use writer::{rewrite, Entry, Rewritten, Writer, Written, LINE_LENGTH};

@@ -10,7 +10,7 @@ use crate::records::{FileHeader, Record};
 /// Prints the header's keys when its line is accepted, a batch's when its
 /// trailer is, and the answer always; gives that answer back.
 pub fn list(file: &[u8], out: &mut impl Write) -> io::Result<Answer> {
-    let answer = each(file, |state, record| match record {
+    let read = each(file, |state, record| match record {
         Record::FileHeader(header) => {
             text(out, "file", FileHeader::FILE_NAME)?;
             writeln!(out, "created={:06}", header.created)?;
@@ -28,7 +28,7 @@ pub fn list(file: &[u8], out: &mut impl Write) -> io::Result<Answer> {
         }
         _ => Ok(()),
     })?;
-    list_answer(&answer, out)
+    list_answer(&read.answer, out)
 }
 
 /// Prints the fields of an item if there is one, and the answer always; gives

@@ -4,28 +4,26 @@
 use std::io::{self, Write};
 
 use crate::answer::{number, Answer};
-use crate::check::check;
+use crate::check::{read, FileRead};
+use crate::ending::Ending;
 use crate::fields::is_printable;
-use crate::state::LINE_LENGTH;
 use crate::table::field_name;
 
 /// Prints what there is to say of the file with this name; gives its answer.
 pub fn report(name: &[u8], file: &[u8], out: &mut impl Write) -> io::Result<Answer> {
-    let answer = check(file);
+    let read = read(file, |_| {});
     out.write_all(name)?;
-    if answer.is_accepted() {
-        writeln!(out, ": accepted, {} lines", answer.line)?;
+    if read.answer.is_accepted() {
+        writeln!(out, ": accepted, {} lines", read.answer.line)?;
     } else {
-        // Every line before the refused one has this length.
-        let start = answer.line.saturating_sub(1) as usize * LINE_LENGTH;
-        refusal(&answer, file.get(start..).unwrap_or_default(), out)?;
+        refusal(&read, out)?;
     }
-    Ok(answer)
+    Ok(read.answer)
 }
 
-/// What a refusal says after the name. `rest` begins with the line refused.
-fn refusal(answer: &Answer, rest: &[u8], out: &mut impl Write) -> io::Result<()> {
-    let Answer { number, line, column } = *answer;
+/// What a refusal says after the name.
+fn refusal(read: &FileRead, out: &mut impl Write) -> io::Result<()> {
+    let FileRead { answer: Answer { number, line, column }, ending, rest } = *read;
     let field = field_name(rest, column.into());
     write!(out, ": line {line}")?;
     if let Some(field) = field {
@@ -33,7 +31,7 @@ fn refusal(answer: &Answer, rest: &[u8], out: &mut impl Write) -> io::Result<()>
     }
     write!(out, ": {}", words(number))?;
     if number == number::LINE {
-        write!(out, ": {}", how(rest))?;
+        write!(out, ": {}", how(rest, ending))?;
     }
     writeln!(out, " (answer {number})")?;
     if number == number::UNFINISHED {
@@ -75,11 +73,15 @@ fn words(answer: u8) -> &'static str {
     }
 }
 
-/// How the line that `rest` begins with is broken.
-fn how(rest: &[u8]) -> String {
+/// How the line that `rest` begins with is broken, the first line having
+/// ended with `first`.
+fn how(rest: &[u8], first: Ending) -> String {
     match up_to_its_end(rest).len() {
         _ if !rest.contains(&10) => format!("the file ends after byte {} of it", rest.len()),
-        50 => "it ends with byte 10 alone, without 13 before it".into(),
+        50 if first == Ending::Ten => {
+            "it ends with 13 and 10, the first line with byte 10 alone".into()
+        }
+        50 => "it ends with byte 10 alone, the first line with 13 and 10".into(),
         length => format!("its length is {length}, not 50"),
     }
 }
@@ -104,8 +106,11 @@ fn shown(line: &[u8]) -> String {
 mod tests {
     use super::*;
 
+    const TEN: &str = "it ends with byte 10 alone, the first line with 13 and 10";
+    const THIRTEEN_TEN: &str = "it ends with 13 and 10, the first line with byte 10 alone";
+
     #[test]
-    fn ways_to_be_broken() {
+    fn ways_to_be_broken_after_any_first_line() {
         let fifty = "x".repeat(50);
         for (rest, expected) in [
             ("x".to_string(), "the file ends after byte 1 of it"),
@@ -121,10 +126,27 @@ mod tests {
             (format!("{fifty}x\n"), "its length is 51, not 50"),
             (format!("{fifty}\r\r\n"), "its length is 51, not 50"),
             (format!("{fifty}{fifty}\r\n"), "its length is 100, not 50"),
-            (format!("{fifty}\n"), "it ends with byte 10 alone, without 13 before it"),
-            (format!("{fifty}\n\r"), "it ends with byte 10 alone, without 13 before it"),
         ] {
-            assert_eq!(how(rest.as_bytes()), expected, "{rest:?}");
+            for first in [Ending::Unknown, Ending::ThirteenTen, Ending::Ten] {
+                assert_eq!(how(rest.as_bytes(), first), expected, "{rest:?}");
+            }
+        }
+    }
+
+    #[test]
+    fn ends_that_the_first_line_has_not() {
+        let fifty = "x".repeat(50);
+        for (rest, first, expected) in [
+            (format!("{fifty}\n"), Ending::ThirteenTen, TEN),
+            (format!("{fifty}\n\r"), Ending::ThirteenTen, TEN),
+            (format!("{fifty}\n{fifty}\r\n"), Ending::ThirteenTen, TEN),
+            (format!("{}\r\n", &fifty[1..]), Ending::ThirteenTen, "its length is 49, not 50"),
+            (format!("{fifty}\r\n"), Ending::Ten, THIRTEEN_TEN),
+            (format!("{fifty}\r\n\n"), Ending::Ten, THIRTEEN_TEN),
+            (format!("{fifty}\r\r\n"), Ending::Ten, "its length is 51, not 50"),
+            (format!("\n{}\r\n", &fifty[1..]), Ending::Ten, "its length is 0, not 50"),
+        ] {
+            assert_eq!(how(rest.as_bytes(), first), expected, "{rest:?}");
         }
     }
 
@@ -152,7 +174,8 @@ mod tests {
             for (line, column) in [(0, 0), (1, 1), (9, 50), (u64::MAX, 255)] {
                 for rest in [&b""[..], b"\n", b"0001A", &[255; 60]] {
                     let mut out = Vec::new();
-                    refusal(&Answer { number, line, column }, rest, &mut out).unwrap();
+                    let answer = Answer { number, line, column };
+                    refusal(&FileRead { answer, ending: Ending::Unknown, rest }, &mut out).unwrap();
                     assert!(out.ends_with(b"\n"));
                 }
             }

@@ -2,14 +2,12 @@
 //! and what each line does to the state.
 
 use crate::answer::{number, Answer};
+use crate::ending::Ending;
 use crate::fields::{Fault, Fields};
 use crate::records::{
     Batch, BatchHeader, BatchTrailer, FileHeader, Group, Kind, OrderingParty, Record, TestCode,
     Transaction, TransactionType, Variant,
 };
-
-/// The bytes of a line, 13 and 10 included.
-pub const LINE_LENGTH: usize = 52;
 
 /// The lines of the longest file that can be accepted: 9,999 batches of
 /// 100,000 items of seven lines, each batch with seven lines of its own, and
@@ -39,6 +37,8 @@ pub enum Place {
 pub struct State {
     /// How many lines were read.
     pub lines: u64,
+    /// How the lines read end; unknown, the next one may have either end.
+    pub ending: Ending,
     pub place: Place,
     /// The group of the batches so far.
     pub group: Group,
@@ -73,6 +73,8 @@ pub struct LineRead {
     pub state: State,
     /// The record read; none after a refusal or at the end of the file.
     pub record: Option<Record>,
+    /// How many bytes the line took, its end included; 0 without a record.
+    pub taken: usize,
 }
 
 impl Default for State {
@@ -86,6 +88,7 @@ impl State {
     pub const fn new() -> Self {
         Self {
             lines: 0,
+            ending: Ending::Unknown,
             place: Place::Start,
             group: Group::Payments,
             sequence: 0,
@@ -109,9 +112,10 @@ impl State {
     pub fn line(self, rest: &[u8]) -> LineRead {
         match self.read(rest) {
             Ok((state, record)) => {
-                LineRead { answer: Answer::accepted(state.lines), state, record }
+                let taken = if record.is_some() { state.ending.line_length() } else { 0 };
+                LineRead { answer: Answer::accepted(state.lines), state, record, taken }
             }
-            Err(answer) => LineRead { answer, state: self, record: None },
+            Err(answer) => LineRead { answer, state: self, record: None, taken: 0 },
         }
     }
 
@@ -126,8 +130,9 @@ impl State {
             (false, true) => return Err(Answer::new(number::UNFINISHED, here, 0)),
             (false, false) => {}
         }
-        let line = match rest.split_first_chunk::<50>() {
-            Some((line, [13, 10, ..])) => line,
+        let ending = Ending::after_line(rest);
+        let line = match rest.first_chunk::<50>() {
+            Some(line) if ending.fits(self.ending) => line,
             _ => return Err(Answer::new(number::LINE, here, 0)),
         };
         let kind = Kind::of_line(line).ok_or(Answer::new(number::UNKNOWN_RECORD, here, 1))?;
@@ -135,7 +140,7 @@ impl State {
             return Err(Answer::new(number::PLACE, here, 1));
         }
         self.fields(kind, line)
-            .and_then(|record| Ok((self.after(&record)?, Some(record))))
+            .and_then(|record| Ok((self.after(&record, ending)?, Some(record))))
             .map_err(|fault| Answer::new(fault.number, here, fault.column))
     }
 
@@ -274,8 +279,9 @@ impl State {
 
     /// The state after an allowed record without faults in its fields. Only a
     /// transaction can still be too much for its batch.
-    fn after(mut self, record: &Record) -> Result<State, Fault> {
+    fn after(mut self, record: &Record, ending: Ending) -> Result<State, Fault> {
         self.lines += 1;
+        self.ending = ending;
         self.place = match record {
             Record::FileHeader(_) => Place::FileHeader,
             Record::BatchHeader(header) => {

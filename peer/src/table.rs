@@ -5,6 +5,8 @@
 
 use std::fmt;
 
+use crate::ending::Ending;
+
 /// What stands in a field.
 #[derive(Clone, Copy, Debug, PartialEq, Eq)]
 pub enum Class {
@@ -171,26 +173,37 @@ const ALWAYS_FIT: [(&str, &[&str]); 14] = [
 pub struct Met {
     pub answer: u8,
     /// The code and variant of the line; of an unknown one its code alone,
-    /// or [`OTHER`]; no record with 0, 10 and 11; with 1 which half of its
-    /// rule, [`SHORT`] or [`UNENDED`].
+    /// or [`OTHER`]; no record with 0, 10 and 11. With 1 which part of its
+    /// rule, [`SHORT`], [`UNENDED`] or [`OTHER_END`]; the last has one more
+    /// with the code and variant of the line.
     pub record: &'static str,
     pub column: usize,
     pub after: &'static str,
+    /// The end of the first line; unknown where that is no line.
+    pub ending: Ending,
 }
 
 pub const NONE: &str = "none";
 /// A code that no record has.
 pub const OTHER: &str = "other";
-/// Fewer than 52 bytes remain.
+/// Fewer bytes remain than a line has.
 pub const SHORT: &str = "short";
-/// No 13, 10 at 51 and 52.
+/// Neither end after 50 characters.
 pub const UNENDED: &str = "unended";
+/// The end that the first line doesn't have.
+pub const OTHER_END: &str = "other-end";
 /// Any record, or after any record.
 pub const ANY: &str = "any";
 
 impl Met {
-    pub const fn new(answer: u8, record: &'static str, column: usize, after: &'static str) -> Self {
-        Self { answer, record, column, after }
+    pub const fn new(
+        ending: Ending,
+        answer: u8,
+        record: &'static str,
+        column: usize,
+        after: &'static str,
+    ) -> Self {
+        Self { answer, record, column, after, ending }
     }
 
     /// The name of the field refused; none of an answer without a column.
@@ -201,29 +214,54 @@ impl Met {
 
 impl fmt::Display for Met {
     fn fmt(&self, f: &mut fmt::Formatter) -> fmt::Result {
-        let Met { answer, record, column, after } = self;
-        write!(f, "answer={answer} record={record} column={column} after={after}")
+        let Met { answer, record, column, after, ending } = self;
+        write!(f, "answer={answer} record={record} column={column} after={after} ending={ending}")
     }
 }
 
 /// Every answer that some file meets.
 pub fn reachable() -> Vec<Met> {
-    let mut all = vec![Met::new(0, NONE, 0, ANY), Met::new(11, NONE, 0, "9999A")];
-    all.extend(LIMITS.map(|column| Met::new(8, "0100A", column, ANY)));
-    for field in FIELDS {
-        all.extend(field.answers.iter().map(|&n| Met::new(n, field.code, field.column, ANY)));
-    }
-    all.extend(CODES.map(|code| Met::new(2, &code[..4], 1, ANY)));
-    all.push(Met::new(2, OTHER, 1, ANY));
-    for (after, fitting) in ALWAYS_FIT {
-        all.extend([SHORT, UNENDED].map(|record| Met::new(1, record, 0, after)));
-        all.push(Met::new(2, ANY, 1, after));
-        all.push(Met::new(10, NONE, 0, after));
-        let unfit = CODES.into_iter().filter(|code| !fitting.contains(code));
-        all.extend(unfit.map(|code| Met::new(3, code, 1, after)));
+    let first = [(1, SHORT), (1, UNENDED), (10, NONE)];
+    let first = first.map(|(answer, record)| Met::new(Ending::Unknown, answer, record, 0, START));
+    let mut all = first.to_vec();
+    for ending in Ending::BOTH {
+        all.extend(of_records(ending));
+        all.extend(of_places(ending));
     }
     all.sort_unstable();
     all.dedup();
+    all
+}
+
+/// The answers that depend on the line, and those of whole files.
+fn of_records(ending: Ending) -> Vec<Met> {
+    let met = |answer, record, column| Met::new(ending, answer, record, column, ANY);
+    let mut all = vec![met(0, NONE, 0), Met::new(ending, 11, NONE, 0, "9999A")];
+    all.extend(LIMITS.map(|column| met(8, "0100A", column)));
+    for field in FIELDS {
+        all.extend(field.answers.iter().map(|&answer| met(answer, field.code, field.column)));
+    }
+    for code in CODES {
+        all.extend([met(1, code, 0), met(2, &code[..4], 1)]);
+    }
+    all.extend([met(1, OTHER, 0), met(2, OTHER, 1)]);
+    all
+}
+
+/// The answers that depend on what came before the line.
+fn of_places(ending: Ending) -> Vec<Met> {
+    let mut all = Vec::new();
+    for (after, fitting) in ALWAYS_FIT {
+        let met = |answer, record, column| Met::new(ending, answer, record, column, after);
+        all.push(met(2, ANY, 1));
+        let unfit = CODES.into_iter().filter(|code| !fitting.contains(code));
+        all.extend(unfit.map(|code| met(3, code, 1)));
+        // A first line that has one of the ends is neither broken nor lacking.
+        if after != START {
+            all.extend([SHORT, UNENDED, OTHER_END].map(|record| met(1, record, 0)));
+            all.push(met(10, NONE, 0));
+        }
+    }
     all
 }
 
@@ -305,11 +343,17 @@ mod tests {
     #[test]
     fn every_answer_is_there_once() {
         let all = reachable();
-        let of = |answer| all.iter().filter(|met| met.answer == answer).count();
-        assert_eq!([0, 1, 2, 8, 10, 11].map(of), [1, 28, 28, 2, 14, 1]);
-        // 14 places and 14 records, less those that always fit.
-        assert_eq!(of(3), 14 * 14 - 27);
-        assert_eq!([4, 5, 6, 7, 9].map(of), [45, 21, 4, 9, 3]);
+        for ending in Ending::BOTH {
+            let is = |met: &&Met, answer| (met.ending, met.answer) == (ending, answer);
+            let of = |answer| all.iter().filter(|met| is(met, answer)).count();
+            assert_eq!([0, 2, 8, 10, 11].map(of), [1, 28, 2, 13, 1]);
+            // Three after each of 13 records, and the other end on any line.
+            assert_eq!(of(1), 3 * 13 + 15);
+            // 14 places and 14 records, less those that always fit.
+            assert_eq!(of(3), 14 * 14 - 27);
+            assert_eq!([4, 5, 6, 7, 9].map(of), [45, 21, 4, 9, 3]);
+        }
+        assert_eq!(all.iter().filter(|met| met.ending == Ending::Unknown).count(), 3);
         assert!(all.iter().all(|met| met.field().is_some() == (met.column > 0)));
     }
 }

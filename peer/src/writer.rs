@@ -2,8 +2,12 @@
 
 use crate::answer::{number, Answer};
 use crate::check::each;
+use crate::ending::Ending;
 use crate::records::{BatchHeader, FileHeader, Kind, OrderingParty, Record, Transaction};
-use crate::state::{State, LINE_LENGTH};
+use crate::state::State;
+
+/// The bytes of a line written, which ends with 13 and 10.
+pub const LINE_LENGTH: usize = Ending::ThirteenTen.line_length();
 
 /// A record to write: every kind but city, trailers without numbers.
 #[derive(Clone, Copy, Debug, PartialEq, Eq)]
@@ -149,7 +153,7 @@ impl LineBuilder {
     fn new(kind: Kind) -> Self {
         let mut bytes = [b' '; LINE_LENGTH];
         bytes[..5].copy_from_slice(kind.code());
-        bytes[50..].copy_from_slice(b"\r\n");
+        bytes[50..].copy_from_slice(Ending::ThirteenTen.bytes());
         Self { bytes, at: 5 }
     }
 
@@ -181,30 +185,29 @@ impl LineBuilder {
 pub struct Rewritten {
     /// The reader's answer for the file read.
     pub answer: Answer,
-    /// Its lines without city records; of a refused file nothing.
+    /// Its lines without city records, ended by 13 and 10; of a refused file
+    /// nothing.
     pub bytes: Vec<u8>,
 }
 
 /// Writes a file again, record by record, from its reading.
 pub fn rewrite(file: &[u8]) -> Rewritten {
-    // No line becomes longer, so this room is always enough.
-    let mut bytes = vec![0; file.len()];
+    let mut bytes = Vec::with_capacity(file.len());
     let mut writer = Writer::new();
-    let mut filled = 0;
-    let read = each(file, |_, record| match Entry::from_record(record) {
-        None => Ok(()),
-        Some(entry) => {
-            let written = writer.write(&entry, &mut bytes, filled);
-            writer = written.writer;
-            filled = written.filled;
-            if written.answer.is_accepted() {
-                Ok(())
-            } else {
-                Err(written.answer)
-            }
+    let read = each(file, |_, record| {
+        let Some(entry) = Entry::from_record(record) else { return Ok(()) };
+        let mut line = [0; LINE_LENGTH];
+        let written = writer.write(&entry, &mut line, 0);
+        if !written.answer.is_accepted() {
+            return Err(written.answer);
         }
+        writer = written.writer;
+        bytes.extend(line);
+        Ok(())
     });
-    let answer = read.unwrap_or_else(|refused_by_writer| refused_by_writer);
-    bytes.truncate(if answer.is_accepted() { filled } else { 0 });
+    let answer = read.map_or_else(|refused_by_writer| refused_by_writer, |read| read.answer);
+    if !answer.is_accepted() {
+        bytes.clear();
+    }
     Rewritten { answer, bytes }
 }

@@ -20,7 +20,12 @@ fn of_lines(lines: &[&str]) -> String {
 
 /// What is printed of the example with these bytes from line 3 on.
 fn third(bytes: &[u8]) -> String {
-    said(&[&file(&EXAMPLE[..2]), bytes].concat())
+    third_ended("\r\n", bytes)
+}
+
+/// The same where the lines before them end so.
+fn third_ended(end: &str, bytes: &[u8]) -> String {
+    said(&[&file_ended(&EXAMPLE[..2], end), bytes].concat())
 }
 
 #[test]
@@ -144,11 +149,9 @@ fn answer_11_shows_what_comes_after() {
     }
 }
 
-const TEN_ALONE: &str = "it ends with byte 10 alone, without 13 before it";
-
 #[test]
 fn broken_lines() {
-    let whole = file(&EXAMPLE)[2 * 52..3 * 52].to_vec();
+    let whole = file(&EXAMPLE[2..3]);
     let text = String::from_utf8(whole[..50].to_vec()).unwrap();
     let bytes = |text: String| text.into_bytes();
     for (rest, how, shown) in [
@@ -166,13 +169,56 @@ fn broken_lines() {
         (bytes(text.clone() + "x\n"), "its length is 51, not 50", EXAMPLE[2]),
         (b"\n".to_vec(), "its length is 0, not 50", ""),
         (b"\r\n".to_vec(), "its length is 0, not 50", ""),
-        (bytes(text.clone() + "\n"), TEN_ALONE, EXAMPLE[2]),
-        (bytes(text.clone() + "\n\r" + &text), TEN_ALONE, EXAMPLE[2]),
-        ([&[0; 50][..], b"\n"].concat(), TEN_ALONE, &".".repeat(50)),
     ] {
+        for end in ["\r\n", "\n"] {
+            assert_eq!(third_ended(end, &rest), broken(how, shown));
+        }
+    }
+}
+
+/// What is printed where line 3 is broken.
+fn broken(how: &str, shown: &str) -> String {
+    format!("it: line 3: the line is broken: {how} (answer 1)\n  {shown}\n")
+}
+
+#[test]
+fn another_end_than_the_first_line() {
+    const TEN: &str = "it ends with byte 10 alone, the first line with 13 and 10";
+    const THIRTEEN_TEN: &str = "it ends with 13 and 10, the first line with byte 10 alone";
+    let text = format!("{:<50}", EXAMPLE[2]);
+    let dots = ".".repeat(50);
+    for after in ["", "\r", "\n", "x", &text] {
+        let ten = format!("{text}\n{after}");
+        assert_eq!(third_ended("\r\n", ten.as_bytes()), broken(TEN, EXAMPLE[2]));
+        let thirteen_ten = format!("{text}\r\n{after}");
+        assert_eq!(third_ended("\n", thirteen_ten.as_bytes()), broken(THIRTEEN_TEN, EXAMPLE[2]));
+    }
+    assert_eq!(third_ended("\r\n", &[&[0; 50], &b"\n"[..]].concat()), broken(TEN, &dots));
+    assert_eq!(third_ended("\n", &[&[0; 50], &b"\r\n"[..]].concat()), broken(THIRTEEN_TEN, &dots));
+}
+
+#[test]
+fn thirteen_as_the_last_character() {
+    let line = format!("{:<49}\r\n", EXAMPLE[2]);
+    let length = broken("its length is 49, not 50", EXAMPLE[2]);
+    assert_eq!(third_ended("\r\n", line.as_bytes()), length);
+    let form = "it: line 3, column 38, filler: the form is wrong: a letter in a number, a strange \
+                character, a space first, blank, or not blank (answer 4)";
+    let shown = format!("{:<49}.", EXAMPLE[2]);
+    let mark = format!("{:37}^", "");
+    assert_eq!(third_ended("\n", line.as_bytes()), format!("{form}\n  {shown}\n  {mark}\n"));
+}
+
+#[test]
+fn a_refused_line_stands_where_the_lines_before_it_end() {
+    for end in ["\r\n", "\n"] {
+        let mut lines = EXAMPLE;
+        assert_eq!(said(&file_ended(&lines, end)), "it: accepted, 9 lines\n");
+        lines[8] = "9998A";
         assert_eq!(
-            third(&rest),
-            format!("it: line 3: the line is broken: {how} (answer 1)\n  {shown}\n")
+            said(&file_ended(&lines, end)),
+            "it: line 9, column 1, code and variant: this record does not exist (answer 2)\n  \
+             9998A\n  ^\n"
         );
     }
 }
@@ -209,10 +255,11 @@ fn printed_lines(answer: Answer) -> usize {
 
 #[test]
 fn any_cut_and_any_byte() {
-    let whole = file(&EXAMPLE);
-    let mut files: Vec<Vec<u8>> = (0..whole.len()).map(|cut| whole[..cut].to_vec()).collect();
-    for at in 0..whole.len() {
-        for byte in [0, 10, 13, b' ', b'0', 255] {
+    let mut files = Vec::new();
+    for whole in [file(&EXAMPLE), file_ended(&EXAMPLE, "\n")] {
+        files.extend((0..whole.len()).map(|cut| whole[..cut].to_vec()));
+        for (at, byte) in (0..whole.len()).flat_map(|at| [0, 10, 13, 32, 48, 255].map(|n| (at, n)))
+        {
             files.push(whole.clone());
             files.last_mut().unwrap()[at] = byte;
         }

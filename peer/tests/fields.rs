@@ -1,9 +1,8 @@
-//! The fields of each record, and line ends.
+//! The fields of each record.
 
 mod common;
 
 use common::*;
-use peer::*;
 
 #[test]
 fn header_fields() {
@@ -158,16 +157,4 @@ fn text_fields() {
     assert_eq!(in_payments(&[&unchecked, "0170BN", &full]), (0, 0));
     let example = [&EXAMPLE[..8], &["9999A                                            X"]].concat();
     assert_eq!(last(&example), (4, 6));
-}
-
-#[test]
-fn line_ends() {
-    for end in [b"\n\r", b"\r\r", b"\n\n", b"  "] {
-        let mut bytes = file(&EXAMPLE);
-        bytes[102..104].copy_from_slice(end);
-        assert_eq!(check(&bytes), answer(1, 2, 0));
-        // Before 2, before 3.
-        bytes[52..57].copy_from_slice(b"xxxxx");
-        assert_eq!(check(&bytes), answer(1, 2, 0));
-    }
 }

@@ -60,8 +60,8 @@ fn impossible_states() {
         State { own: 5, place: Place::FileTrailer, ..state },
     ] {
         for rest in [&line[..], &line[..3], &[]] {
-            let read = bad.line(rest);
-            assert_eq!(read, LineRead { answer: answer(24, 0, 0), state: bad, record: None });
+            let refused = LineRead { answer: answer(24, 0, 0), state: bad, record: None, taken: 0 };
+            assert_eq!(bad.line(rest), refused);
         }
         let written = Writer { state: bad }.write(&Entry::FileTrailer, &mut [], 0);
         assert_eq!(written.answer, answer(24, 0, 0));
@@ -78,8 +78,9 @@ fn the_end_of_a_file() {
         assert!(read.record.is_some());
         state = read.state;
     }
-    assert_eq!(state.line(b""), LineRead { answer: answer(0, 9, 0), state, record: None });
+    let nothing = |answer| LineRead { answer, state, record: None, taken: 0 };
+    assert_eq!(state.line(b""), nothing(answer(0, 9, 0)));
     for rest in [&b"\n"[..], &b"\0"[..], &whole[..]] {
-        assert_eq!(state.line(rest), LineRead { answer: answer(11, 10, 0), state, record: None });
+        assert_eq!(state.line(rest), nothing(answer(11, 10, 0)));
     }
 }

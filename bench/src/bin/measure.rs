@@ -9,7 +9,7 @@
 
 #![forbid(unsafe_code)]
 
-use bench::Month;
+use bench::{Month, THIRTEEN_TEN};
 use std::hint::black_box;
 use std::process::ExitCode;
 use std::time::Instant;
@@ -45,7 +45,7 @@ fn nothing(_: &[u8]) -> u64 {
 
 fn month_end(lines: u64) -> Vec<u8> {
     let mut file = Vec::new();
-    let month = Month { batches: 1, items: 100_000, lines };
+    let month = Month { batches: 1, items: 100_000, lines, end: THIRTEEN_TEN };
     month.write(&mut file).expect("memory");
     file
 }

@@ -7,7 +7,12 @@ use peer::*;
 
 /// Fills each line to 50 characters and ends it with 13 and 10.
 pub fn file(lines: &[&str]) -> Vec<u8> {
-    lines.iter().flat_map(|text| format!("{text:<50}\r\n").into_bytes()).collect()
+    file_ended(lines, "\r\n")
+}
+
+/// Fills each line to 50 characters and ends it so.
+pub fn file_ended(lines: &[&str], end: &str) -> Vec<u8> {
+    lines.iter().flat_map(|text| format!("{text:<50}{end}").into_bytes()).collect()
 }
 
 pub fn answer(number: u8, line: u64, column: u8) -> Answer {
@@ -59,15 +64,14 @@ pub fn trailer(amount: u64, accounts: u64, items: u64) -> String {
 
 /// The answer on the last of these lines, the ones before being accepted.
 pub fn last(lines: &[&str]) -> (u8, u8) {
-    let bytes = file(lines);
     let mut state = State::new();
-    for (number, line) in bytes.chunks(LINE_LENGTH).enumerate() {
-        let read = state.line(line);
+    for number in 0..lines.len() {
+        let read = state.line(&file(&lines[number..=number]));
         if number + 1 == lines.len() {
             assert_eq!(read.answer.line, lines.len() as u64);
             assert_eq!(read.record.is_some(), read.answer.number == 0);
             if read.answer.number != 0 {
-                assert_eq!(read.state, state);
+                assert_eq!((read.state, read.taken), (state, 0));
             }
             return (read.answer.number, read.answer.column);
         }

@@ -15,7 +15,8 @@ use std::collections::BTreeMap;
 use std::io::{self, BufRead, Read};
 use std::process::ExitCode;
 
-use peer::table::{reachable, Met, ANY, CODES, NONE, OTHER, SHORT, START, UNENDED};
+use peer::table::{reachable, Met, ANY, CODES, NONE, OTHER, OTHER_END, SHORT, START, UNENDED};
+use peer::Ending;
 
 use reports::{Report, WAYS};
 
@@ -84,12 +85,17 @@ fn of_lists(names: &[String]) -> io::Result<Vec<String>> {
 
 /// The file's own refusal is counted with the file.
 fn of_items(names: &[String]) -> io::Result<Vec<String>> {
-    let numbers = answers(names)?.into_iter().map(|[number, _, _]| number as u8);
-    Ok(numbers.filter(|number| matches!(number, 0 | 13)).map(of_item).collect())
+    let mut all = Vec::new();
+    for (name, [number, _, _]) in names.iter().zip(answers(names)?) {
+        if matches!(number, 0 | 13) {
+            all.push(of_item(number as u8, Ending::after_line(&std::fs::read(name)?)));
+        }
+    }
+    Ok(all)
 }
 
-fn of_item(answer: u8) -> String {
-    Met::new(answer, ITEM, 0, ANY).to_string()
+fn of_item(answer: u8, ending: Ending) -> String {
+    Met::new(ending, answer, ITEM, 0, ANY).to_string()
 }
 
 fn of_checks(names: &[String]) -> io::Result<Vec<String>> {
@@ -122,32 +128,39 @@ fn broken(way: &str) -> String {
 }
 
 fn met_by_file(file: &[u8], answer: u8, line: usize, column: usize) -> Vec<Met> {
-    let met = |record, after| Met::new(answer, record, column, after);
-    let start = (line.max(1) - 1) * 52;
-    let after = if start == 0 { START } else { record_of(file, start - 52) };
+    let ending = Ending::after_line(file);
+    let met = |record, after| Met::new(ending, answer, record, column, after);
+    // A first line that has neither end is short where 13 and 10 lack room.
+    let length = if ending == Ending::Ten { ending } else { Ending::ThirteenTen }.line_length();
+    let from = |line| file.get(line * length..).unwrap_or_default();
+    let (after, here) = match line {
+        0 | 1 => (START, file),
+        _ => (record_of(from(line - 2)), from(line - 1)),
+    };
     match answer {
         0 => vec![met(NONE, ANY)],
-        1 if file.len() < start + 52 => vec![met(SHORT, after)],
-        1 => vec![met(UNENDED, after)],
         // Once by what stands there, once by the place.
-        2 => vec![met(code_of(file, start), ANY), met(ANY, after)],
-        3 => vec![met(record_of(file, start), after)],
+        1 if Ending::after_line(here) != Ending::Unknown => {
+            vec![met(record_of(here), ANY), met(OTHER_END, after)]
+        }
+        1 if here.len() < length => vec![met(SHORT, after)],
+        1 => vec![met(UNENDED, after)],
+        2 => vec![met(code_of(here), ANY), met(ANY, after)],
+        3 => vec![met(record_of(here), after)],
         10 | 11 => vec![met(NONE, after)],
-        _ => vec![met(record_of(file, start), ANY)],
+        _ => vec![met(record_of(here), ANY)],
     }
 }
 
-/// Code and variant of the line that starts here.
-fn record_of(file: &[u8], start: usize) -> &'static str {
-    let here = file.get(start..).unwrap_or_default();
+/// Code and variant of the line that these bytes begin with.
+fn record_of(here: &[u8]) -> &'static str {
     CODES.into_iter().find(|code| here.starts_with(code.as_bytes())).unwrap_or(OTHER)
 }
 
 /// The code alone, its variant being wrong.
-fn code_of(file: &[u8], start: usize) -> &'static str {
-    let here = file.get(start..).unwrap_or_default();
-    let known = CODES.iter().map(|code| &code[..4]);
-    known.into_iter().find(|code| here.starts_with(code.as_bytes())).unwrap_or(OTHER)
+fn code_of(here: &[u8]) -> &'static str {
+    let mut known = CODES.iter().map(|code| &code[..4]);
+    known.find(|code| here.starts_with(code.as_bytes())).unwrap_or(OTHER)
 }
 
 /// Adds up counts under the same name.
@@ -165,7 +178,8 @@ fn totals() -> io::Result<BTreeMap<String, u64>> {
 fn report() -> io::Result<bool> {
     let mut totals = totals()?;
     let table = reachable();
-    let answers = table.iter().map(Met::to_string).chain([0, 13].map(of_item)).collect();
+    let items = Ending::BOTH.iter().flat_map(|&ending| [0, 13].map(|n| of_item(n, ending)));
+    let answers = table.iter().map(Met::to_string).chain(items).collect();
     let told = table.iter().map(|met| in_words(met, met.field())).collect();
     let mut all_met = true;
     for (what, names) in [

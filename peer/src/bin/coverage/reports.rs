@@ -1,8 +1,13 @@
 //! What `check` printed, read back.
 
 /// Ways in which a line can be broken.
-pub const WAYS: [&str; 4] =
-    ["the file ends in it", "shorter than 50", "longer than 50", "byte 10 alone"];
+pub const WAYS: [&str; 5] = [
+    "the file ends in it",
+    "shorter than 50",
+    "longer than 50",
+    "byte 10 alone after 13 and 10",
+    "13 and 10 after byte 10 alone",
+];
 
 /// What was printed of one file.
 pub struct Report {
@@ -52,11 +57,11 @@ impl Report {
 
 fn way(words: &str) -> Option<&'static str> {
     let how = words.strip_prefix("the line is broken: ")?;
-    if how.starts_with("the file ends after byte ") {
-        return Some(WAYS[0]);
-    }
-    if how.starts_with("it ends with byte 10 alone") {
-        return Some(WAYS[3]);
+    match how {
+        "it ends with byte 10 alone, the first line with 13 and 10" => return Some(WAYS[3]),
+        "it ends with 13 and 10, the first line with byte 10 alone" => return Some(WAYS[4]),
+        _ if how.starts_with("the file ends after byte ") => return Some(WAYS[0]),
+        _ => {}
     }
     let length: usize =
         how.strip_prefix("its length is ")?.strip_suffix(", not 50")?.parse().ok()?;
@@ -69,9 +74,9 @@ mod tests {
 
     #[test]
     fn what_the_second_program_prints() {
-        let mut header = b"0001A150309CLIEOP03NACHT14011".to_vec();
-        header.resize(50, b' ');
-        header.extend(b"\r\n");
+        let line = |text: &str, end: &str| format!("{text:50}{end}").into_bytes();
+        let good = "0001A150309CLIEOP03NACHT15011";
+        let header = line("0001A150309CLIEOP03NACHT14011", "\r\n");
         let of = |file: &[u8], expected| {
             let mut out = Vec::new();
             peer::report(b"it", file, &mut out).unwrap();
@@ -84,10 +89,13 @@ mod tests {
         };
         of(b"", (10, 1, 0, None, None));
         of(&header, (7, 1, 25, Some("identification"), None));
-        of(&header[1..], (1, 1, 0, None, Some(WAYS[1])));
+        of(&header[2..], (1, 1, 0, None, Some(WAYS[1])));
         of(&header[..20], (1, 1, 0, None, Some(WAYS[0])));
-        of(&[&header[..50], b"\n"].concat(), (1, 1, 0, None, Some(WAYS[3])));
         of(&[b"0", &header[..]].concat(), (1, 1, 0, None, Some(WAYS[2])));
+        for (first, second, way) in [("\r\n", "\n", WAYS[3]), ("\n", "\r\n", WAYS[4])] {
+            let file = [line(good, first), line(good, second)].concat();
+            of(&file, (1, 2, 0, None, Some(way)));
+        }
     }
 
     #[test]

@@ -2,6 +2,8 @@
 
 use std::collections::BTreeSet;
 
+use peer::Ending;
+
 /// Shapes of which there is one each.
 const SINGLE: [&str; 7] = [
     "city 0113B",
@@ -22,8 +24,18 @@ fn batch(header: &str, group: &str, fixed: usize) -> String {
     format!("batch {header} group {group}, {fixed} fixed descriptions")
 }
 
-/// Every shape.
+/// A shape with the line end of the file.
+fn ended(shape: &str, ending: Ending) -> String {
+    format!("{shape} ending={ending}")
+}
+
+/// Every shape with both line ends.
 pub fn all() -> Vec<String> {
+    let with = |ending| shapes().into_iter().map(move |shape| ended(&shape, ending));
+    Ending::BOTH.into_iter().flat_map(with).collect()
+}
+
+fn shapes() -> Vec<String> {
     let mut all: Vec<String> = SINGLE.map(String::from).to_vec();
     for kind in ["0000", "0003", "0005", "0008", "1001", "1002"] {
         all.extend((0..=4).map(|own| item(kind, false, own)));
@@ -38,14 +50,15 @@ pub fn all() -> Vec<String> {
 /// The shapes of this accepted file.
 pub fn of(file: &[u8]) -> BTreeSet<String> {
     let text = String::from_utf8_lossy(file);
-    let lines: Vec<&str> = text.split_terminator("\r\n").collect();
+    let lines: Vec<&str> = text.lines().collect();
     let mut shapes = BTreeSet::new();
     for (number, line) in lines.iter().enumerate() {
         shapes.extend(of_line(line, &lines[number + 1..]));
     }
     let batches = lines.iter().filter(|line| line.starts_with("0010")).count();
     shapes.extend(single("batches", &batches.to_string()));
-    shapes
+    let ending = Ending::after_line(file);
+    shapes.iter().map(|shape| ended(shape, ending)).collect()
 }
 
 fn single(what: &str, value: &str) -> Option<String> {

@@ -1,10 +1,12 @@
 //! One file for each answer of the table.
 
-use peer::table::{reachable, Class, Field, Met, ANY, CODES, FIELDS, OTHER, SHORT, START};
+use peer::table::{reachable, Class, Field, Met, ANY, CODES, FIELDS, OTHER, SHORT, START, UNENDED};
+use peer::Ending;
 
 use crate::bytes::after_the_trailer;
+use crate::ends;
 use crate::faults;
-use crate::line::{join, Line};
+use crate::line::{join, End, Line};
 use crate::random::Random;
 use crate::records::stray;
 use crate::scenarios::over_the_total;
@@ -17,19 +19,25 @@ pub fn all() -> Vec<Met> {
 }
 
 pub fn file(random: &mut Random, aim: Met) -> Vec<u8> {
-    match aim.answer {
-        0 => join(&valid::file(random)),
+    let ending = match aim.ending {
+        Ending::Unknown => *random.pick(&Ending::BOTH),
+        fixed => fixed,
+    };
+    let lines = match aim.answer {
+        0 => valid::file(random),
         1 => broken(random, aim),
         2 => unknown(random, aim),
         3 => misplaced(random, aim),
         8 => over_the_total(random),
         10 => {
-            let (lines, upto) = valid::with_place(random, |lines| ends_in(lines, aim.after));
-            join(&lines[..upto])
+            let (mut lines, upto) = valid::with_place(random, |lines| ends_in(lines, aim.after));
+            lines.truncate(upto);
+            lines
         }
-        11 => after_the_trailer(random),
+        11 => return after_the_trailer(random, ending),
         _ => of_field(random, aim),
-    }
+    };
+    join(&lines, ending)
 }
 
 fn ends_in(lines: &[Line], code: &str) -> bool {
@@ -39,7 +47,7 @@ fn ends_in(lines: &[Line], code: &str) -> bool {
     }
 }
 
-fn of_field(random: &mut Random, aim: Met) -> Vec<u8> {
+fn of_field(random: &mut Random, aim: Met) -> Vec<Line> {
     let is_it = |field: &Field| (field.code, field.column) == (aim.record, aim.column);
     let field = FIELDS.into_iter().find(is_it).expect("only fields have these answers");
     let fits = |lines: &[Line]| {
@@ -47,7 +55,7 @@ fn of_field(random: &mut Random, aim: Met) -> Vec<u8> {
     };
     let (mut lines, upto) = valid::with_place(random, fits);
     faults::put(random, &mut lines[upto - 1], field, aim.answer);
-    join(&lines)
+    lines
 }
 
 /// Is there something that this field of the last line can differ from?
@@ -61,27 +69,51 @@ fn can_differ(lines: &[Line], field: Field) -> bool {
     }
 }
 
-/// A line cut short, or of which the end is wrong.
-fn broken(random: &mut Random, aim: Met) -> Vec<u8> {
-    let (mut lines, upto) = valid::with_place(random, |lines| ends_in(lines, aim.after));
-    if aim.record == SHORT {
-        let length = upto * 52 + random.between(1, 51) as usize;
-        let mut bytes = join(&lines);
-        bytes.truncate(length);
-        return bytes;
+/// A line cut short, without an end, or with the other one.
+fn broken(random: &mut Random, aim: Met) -> Vec<Line> {
+    let (mut lines, at) = match aim.after {
+        ANY => with_later(random, aim.record),
+        after => valid::with_place(random, |lines| ends_in(lines, after)),
+    };
+    match aim.record {
+        SHORT => {
+            lines.truncate(at + 1);
+            cut_short(random, &mut lines[at]);
+        }
+        UNENDED => lines[at].end = ends::neither(random),
+        _ => lines[at].end = End::Other,
     }
-    let end = &mut lines[upto].end;
-    match random.below(4) {
-        0 => end[0] = random.byte_that(|byte| byte != 13),
-        1 => end[1] = random.byte_that(|byte| byte != 10),
-        2 => end.fill(b' '),
-        _ => end.swap(0, 1),
+    lines
+}
+
+fn cut_short(random: &mut Random, line: &mut Line) {
+    if random.one_in(4) {
+        line.end = End::WithoutTen;
+    } else {
+        line.end = End::Bytes(vec![]);
+        line.body.truncate(random.between(1, 50) as usize);
     }
-    join(&lines)
+}
+
+/// A file with a line of this code that isn't its first, and the number of
+/// that line. Of codes that a valid file doesn't have there one is put in.
+fn with_later(random: &mut Random, code: &str) -> (Vec<Line>, usize) {
+    if !matches!(code, "0001A" | OTHER) {
+        let (lines, found) = valid::with_line(random, code);
+        return (lines, *random.pick(&found));
+    }
+    let mut lines = valid::file(random);
+    let at = 1 + random.index(lines.len() - 1);
+    let line = match code {
+        OTHER => Line::new(unknown_code(random)),
+        _ => stray(random, code),
+    };
+    lines.insert(at, line);
+    (lines, at)
 }
 
 /// A code that isn't in the table, or with a variant that isn't.
-fn unknown(random: &mut Random, aim: Met) -> Vec<u8> {
+fn unknown(random: &mut Random, aim: Met) -> Vec<Line> {
     let after = if aim.after == ANY { *random.pick(&CODES[..13]) } else { aim.after };
     let (mut lines, upto) = valid::with_place(random, |lines| ends_in(lines, after));
     let code = match aim.record {
@@ -94,7 +126,7 @@ fn unknown(random: &mut Random, aim: Met) -> Vec<u8> {
         line.body[4] = random.byte();
     }
     lines.insert(upto, line);
-    join(&lines)
+    lines
 }
 
 fn unknown_code(random: &mut Random) -> String {
@@ -107,7 +139,7 @@ fn unknown_code(random: &mut Random) -> String {
 }
 
 /// A record where it may not stand.
-fn misplaced(random: &mut Random, aim: Met) -> Vec<u8> {
+fn misplaced(random: &mut Random, aim: Met) -> Vec<Line> {
     let fits = |lines: &[Line]| ends_in(lines, aim.after) && refuses(lines, aim.record);
     let (mut lines, upto) = valid::with_place(random, fits);
     let mut line = stray(random, aim.record);
@@ -115,7 +147,7 @@ fn misplaced(random: &mut Random, aim: Met) -> Vec<u8> {
         spoil_field(random, &mut line);
     }
     lines.insert(upto, line);
-    join(&lines)
+    lines
 }
 
 /// After these lines, is this record out of place? Of the pairs that depend

@@ -1,6 +1,7 @@
-//! Damage to bytes, lengths and line ends, and noise.
+//! Damage to bytes and lengths, and noise.
 
 use peer::table::CODES;
+use peer::Ending;
 
 use crate::line::{join, Line};
 use crate::random::Random;
@@ -8,8 +9,8 @@ use crate::structure::any_stray;
 use crate::valid;
 
 /// Bytes changed, put in or left out anywhere.
-pub fn damage(random: &mut Random) -> Vec<u8> {
-    let mut bytes = join(&valid::file(random));
+pub fn damage(random: &mut Random, ending: Ending) -> Vec<u8> {
+    let mut bytes = join(&valid::file(random), ending);
     let times = if random.one_in(4) { 2 } else { 1 };
     for _ in 0..times {
         let at = random.index(bytes.len());
@@ -27,68 +28,34 @@ pub fn damage(random: &mut Random) -> Vec<u8> {
 }
 
 /// A file cut short: anywhere, at the end of a line, or in its last line.
-pub fn cut(random: &mut Random) -> Vec<u8> {
-    let mut bytes = join(&valid::file(random));
+pub fn cut(random: &mut Random, ending: Ending) -> Vec<u8> {
+    let lines = valid::file(random);
+    let mut bytes = join(&lines, ending);
+    // All of them have the same length.
+    let line = random.index(lines.len()) * (bytes.len() / lines.len());
     let length = match random.below(8) {
         0 => 0,
         1 => random.index(60),
-        2 | 3 => random.index(bytes.len() / 52) * 52,
+        2 | 3 => line,
         4 => bytes.len() - 1 - random.index(3),
-        5 => random.index(bytes.len() / 52) * 52 + 49 + random.index(3),
+        5 => line + 49 + random.index(3),
         _ => random.index(bytes.len()),
     };
     bytes.truncate(length);
     bytes
 }
 
-pub fn wrong_end(random: &mut Random) -> Vec<u8> {
-    const ENDS: [&[u8]; 12] = [
-        b"\n",
-        b"\r",
-        b"\n\r",
-        b"",
-        b"\r\r",
-        b"\n\n",
-        b" \r\n",
-        b"\r\n\r\n",
-        b"\r\r\n",
-        b"  ",
-        b"\r ",
-        b" \n",
-    ];
-    random.pick(&ENDS).to_vec()
-}
-
-/// Line ends: of one line, of all, or of the last.
-pub fn line_end_damage(random: &mut Random) -> Vec<u8> {
-    let mut lines = valid::file(random);
-    let end = wrong_end(random);
-    let at = random.index(lines.len());
-    let last = lines.len() - 1;
-    match random.below(5) {
-        0 => lines.iter_mut().for_each(|line| line.end.clone_from(&end)),
-        1 => lines[last].end = end,
-        2 => {
-            // Too short or too long, with a good end.
-            let length = *random.pick(&[0, 5, 40, 48, 49, 51, 52]);
-            lines[at].body.resize(length, b' ');
-        }
-        _ => lines[at].end = end,
-    }
-    join(&lines)
-}
-
 /// Something after the file trailer.
-pub fn after_the_trailer(random: &mut Random) -> Vec<u8> {
-    let mut bytes = join(&valid::file(random));
+pub fn after_the_trailer(random: &mut Random, ending: Ending) -> Vec<u8> {
+    let mut bytes = join(&valid::file(random), ending);
     match random.below(9) {
         0 => bytes.push(26),
         1 => bytes.extend(b"\r\n"),
         2 => bytes.push(b'\n'),
         3 => bytes.push(0),
         4 => bytes.push(b' '),
-        5 => bytes.extend(join(&[Line::new("9999A")])),
-        6 => bytes.extend(join(&[any_stray(random)])),
+        5 => bytes.extend(join(&[Line::new("9999A")], ending)),
+        6 => bytes.extend(join(&[any_stray(random)], ending)),
         7 => bytes.extend_from_within(..),
         _ => {
             let length = random.between(1, 60);
@@ -99,35 +66,34 @@ pub fn after_the_trailer(random: &mut Random) -> Vec<u8> {
 }
 
 /// No CLIEOP03 file at all, or only the beginning of one.
-pub fn noise(random: &mut Random) -> Vec<u8> {
+pub fn noise(random: &mut Random, ending: Ending) -> Vec<u8> {
     let mut bytes = Vec::new();
     if random.one_in(3) {
         let lines = valid::file(random);
         let kept = random.index(lines.len());
-        bytes = join(&lines[..kept]);
+        bytes = join(&lines[..kept], ending);
     }
-    let length = *random.pick(&[0, 1, 2, 51, 52, 53, 104, 200]);
-    let count = random.between(1, 5);
+    let length = *random.pick(&[0, 1, 2, 50, 51, 52, 53, 102, 104, 200]);
+    let count = random.between(1, 10);
     match random.below(6) {
         0 => bytes.extend((0..length).map(|_| random.byte())),
         1 => bytes.extend((0..length).map(|_| random.printable())),
-        2 => (0..count).for_each(|_| bytes.extend(any_line(random))),
-        3 | 4 => (0..count).for_each(|_| bytes.extend(any_fields(random))),
-        _ => (0..2 * count).for_each(|_| bytes.extend(join(&[any_stray(random)]))),
+        2 => (0..count).for_each(|_| bytes.extend(join(&[any_line(random)], ending))),
+        3 | 4 => (0..count).for_each(|_| bytes.extend(join(&[any_fields(random)], ending))),
+        _ => (0..count).for_each(|_| bytes.extend(join(&[any_stray(random)], ending))),
     }
     bytes
 }
 
 /// A line of the right length with anything in it.
-fn any_line(random: &mut Random) -> Vec<u8> {
-    let body: Vec<u8> = (0..50).map(|_| random.printable()).collect();
-    join(&[Line::new(body)])
+fn any_line(random: &mut Random) -> Line {
+    Line::new((0..50).map(|_| random.printable()).collect::<Vec<u8>>())
 }
 
 /// A good code and anything after it.
-fn any_fields(random: &mut Random) -> Vec<u8> {
+fn any_fields(random: &mut Random) -> Line {
     let mut body = random.pick(&CODES).as_bytes().to_vec();
     let digits = random.coin();
     body.extend((0..45).map(|_| if digits { random.digit() } else { random.byte() }));
-    join(&[Line::new(body)])
+    Line::new(body)
 }

@@ -1,17 +1,25 @@
 //! The few large files: the limits on items and on batches.
 
-use crate::line::{join, Line};
+use peer::Ending;
+
+use crate::line::Line;
 use crate::plan::{file_of, Extras, Plan};
 use crate::random::Random;
 use crate::spoil::spoil_field;
 use crate::values::{any_account, ordinary_account, LARGEST_TOTAL};
 
-/// Which of them file `index` is: one in each of the first eight thousands.
-pub fn scenario(index: u64) -> Option<u64> {
-    (index % 1000 == 50 && index < 8000).then_some(index / 1000)
+/// Which of them file `index` is: of each of the first eight thousands two,
+/// one with each line end.
+pub fn scenario(index: u64) -> Option<(u64, Ending)> {
+    let ending = match index % 1000 {
+        50 => Ending::ThirteenTen,
+        51 => Ending::Ten,
+        _ => return None,
+    };
+    (index < 8000).then_some((index / 1000, ending))
 }
 
-pub fn file(random: &mut Random, scenario: u64) -> Vec<u8> {
+pub fn file(random: &mut Random, scenario: u64) -> Vec<Line> {
     let debits = random.coin();
     let name_lacks = if debits { b"1002" } else { b"0000" };
     let mut lines = match scenario {
@@ -31,7 +39,7 @@ pub fn file(random: &mut Random, scenario: u64) -> Vec<u8> {
         6 => lines[trailer].set(34, b"0100001"),
         _ => {}
     }
-    join(&lines)
+    lines
 }
 
 fn many_batches(random: &mut Random, debits: bool) -> Vec<Line> {

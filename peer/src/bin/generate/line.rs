@@ -1,17 +1,45 @@
 //! Lines as they will be written.
 
-/// A line; a good one has 50 bytes and 13, 10.
+use peer::Ending;
+
+/// A line; a good one has 50 bytes and the file's own end.
 #[derive(Clone)]
 pub struct Line {
     pub body: Vec<u8>,
-    pub end: Vec<u8>,
+    pub end: End,
+}
+
+#[derive(Clone)]
+pub enum End {
+    /// As the file's lines end.
+    Own,
+    /// As the file's lines don't end.
+    Other,
+    /// As the file's lines end, cut short by the 10.
+    WithoutTen,
+    Bytes(Vec<u8>),
+}
+
+impl End {
+    fn bytes(&self, ending: Ending) -> &[u8] {
+        let (own, other): (&[u8], &[u8]) = match ending {
+            Ending::Ten => (b"\n", b"\r\n"),
+            _ => (b"\r\n", b"\n"),
+        };
+        match self {
+            End::Own => own,
+            End::Other => other,
+            End::WithoutTen => &own[..own.len() - 1],
+            End::Bytes(bytes) => bytes,
+        }
+    }
 }
 
 impl Line {
     pub fn new(text: impl AsRef<[u8]>) -> Self {
         let mut body = text.as_ref().to_vec();
         body.resize(50, b' ');
-        Line { body, end: b"\r\n".to_vec() }
+        Line { body, end: End::Own }
     }
 
     pub fn is(&self, code: &str) -> bool {
@@ -39,11 +67,12 @@ impl Line {
     }
 }
 
-pub fn join(lines: &[Line]) -> Vec<u8> {
+/// The bytes of a file whose lines end so.
+pub fn join(lines: &[Line], ending: Ending) -> Vec<u8> {
     let mut bytes = Vec::with_capacity(lines.len() * 52);
     for line in lines {
         bytes.extend_from_slice(&line.body);
-        bytes.extend_from_slice(&line.end);
+        bytes.extend_from_slice(line.end.bytes(ending));
     }
     bytes
 }

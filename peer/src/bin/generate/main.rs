@@ -4,12 +4,14 @@
 //!
 //! The files are built from a model of this program's own, which never asks
 //! the reader whether one is valid; of the library only the table of answers
-//! is used. File n of a seed is the same whatever COUNT and FIRST are.
+//! and the names of the line ends are used. File n of a seed is the same
+//! whatever COUNT and FIRST are.
 
 #![forbid(unsafe_code)]
 
 mod aims;
 mod bytes;
+mod ends;
 mod faults;
 mod huge;
 mod line;
@@ -29,6 +31,7 @@ use std::process::ExitCode;
 
 use line::join;
 use peer::table::Met;
+use peer::Ending;
 use random::Random;
 
 fn main() -> ExitCode {
@@ -71,23 +74,25 @@ fn write_files(seed: u64, first: u64, count: u64, dir: &Path) -> io::Result<()> 
 /// One file. Every third takes the next answer of the table, so that each is
 /// met soon; a few among the first are huge; the others are left to chance.
 fn generate(random: &mut Random, index: u64, aims: &[Met]) -> Vec<u8> {
-    if let Some(scenario) = huge::scenario(index) {
-        return huge::file(random, scenario);
+    if let Some((scenario, ending)) = huge::scenario(index) {
+        return join(&huge::file(random, scenario), ending);
     }
     if index.is_multiple_of(3) {
         let aim = aims[(index / 3) as usize % aims.len()];
         return aims::file(random, aim);
     }
-    match random.below(100) {
-        0..=39 => join(&valid::file(random)),
-        40..=57 => spoil::field_damage(random),
-        58..=68 => structure::damage(random),
-        69..=78 => scenarios::file(random),
-        79..=88 => spoil::two_faults(random),
-        89..=92 => bytes::damage(random),
-        93..=94 => bytes::cut(random),
-        95..=96 => bytes::line_end_damage(random),
-        97 => bytes::after_the_trailer(random),
-        _ => bytes::noise(random),
-    }
+    let ending = *random.pick(&Ending::BOTH);
+    let lines = match random.below(100) {
+        0..=39 => valid::file(random),
+        40..=55 => spoil::field_damage(random),
+        56..=66 => structure::damage(random),
+        67..=76 => scenarios::file(random),
+        77..=86 => spoil::two_faults(random),
+        87..=90 => ends::damage(random),
+        91..=94 => return bytes::damage(random, ending),
+        95..=96 => return bytes::cut(random, ending),
+        97 => return bytes::after_the_trailer(random, ending),
+        _ => return bytes::noise(random, ending),
+    };
+    join(&lines, ending)
 }

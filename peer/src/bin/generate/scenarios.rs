@@ -1,6 +1,6 @@
 //! Faults that take some care to reach.
 
-use crate::line::{join, lines_with, Line};
+use crate::line::{lines_with, Line};
 use crate::plan::{batch, file_of, Extras, Plan};
 use crate::random::Random;
 use crate::records;
@@ -8,7 +8,7 @@ use crate::spoil::spoil_field;
 use crate::valid::{self, with_line};
 use crate::values::{LARGEST_AMOUNT, LARGEST_TOTAL, TEN_DIGITS};
 
-pub fn file(random: &mut Random) -> Vec<u8> {
+pub fn file(random: &mut Random) -> Vec<Line> {
     match random.below(26) {
         0 => over_the_total_and_more(random),
         1 | 2 => after_sequence_9999(random),
@@ -25,7 +25,7 @@ pub fn file(random: &mut Random) -> Vec<u8> {
 }
 
 /// A batch over its total, by one cent or much more.
-fn too_large(random: &mut Random) -> Vec<Line> {
+pub fn over_the_total(random: &mut Random) -> Vec<Line> {
     let debits = random.coin();
     let mut plan = Plan::ordinary(random, 1);
     plan.reach_total(random, LARGEST_TOTAL);
@@ -36,26 +36,22 @@ fn too_large(random: &mut Random) -> Vec<Line> {
     file_of(random, debits, 1, &[plan], Extras::None)
 }
 
-pub fn over_the_total(random: &mut Random) -> Vec<u8> {
-    join(&too_large(random))
-}
-
 /// Another fault on one of the last lines.
-fn over_the_total_and_more(random: &mut Random) -> Vec<u8> {
-    let mut lines = too_large(random);
+fn over_the_total_and_more(random: &mut Random) -> Vec<Line> {
+    let mut lines = over_the_total(random);
     let at = lines.len() - 1 - random.index(5);
     spoil_field(random, &mut lines[at]);
-    join(&lines)
+    lines
 }
 
 /// A file with one more batch, put in before the file trailer.
-fn with_batch(mut lines: Vec<Line>, batch: Vec<Line>) -> Vec<u8> {
+fn with_batch(mut lines: Vec<Line>, batch: Vec<Line>) -> Vec<Line> {
     let end = lines.len() - 1;
     lines.splice(end..end, batch);
-    join(&lines)
+    lines
 }
 
-fn after_sequence_9999(random: &mut Random) -> Vec<u8> {
+fn after_sequence_9999(random: &mut Random) -> Vec<Line> {
     let debits = random.coin();
     let batches = random.between(1, 3);
     let plans: Vec<Plan> = (0..batches).map(|_| Plan::ordinary(random, 1)).collect();
@@ -66,7 +62,7 @@ fn after_sequence_9999(random: &mut Random) -> Vec<u8> {
     with_batch(lines, more)
 }
 
-fn batch_of_the_other_group(random: &mut Random) -> Vec<u8> {
+fn batch_of_the_other_group(random: &mut Random) -> Vec<Line> {
     let debits = random.coin();
     let first = Plan::ordinary(random, 2);
     let second = Plan::ordinary(random, 2);
@@ -76,15 +72,15 @@ fn batch_of_the_other_group(random: &mut Random) -> Vec<u8> {
 }
 
 /// A first batch that calls itself of the other group.
-fn called_the_other_group(random: &mut Random) -> Vec<u8> {
+fn called_the_other_group(random: &mut Random) -> Vec<Line> {
     let debits = random.coin();
     let plan = Plan::ordinary(random, 2);
     let mut lines = file_of(random, debits, 1, &[plan], Extras::Some);
     lines[1].set(6, if debits { "00" } else { "10" });
-    join(&lines)
+    lines
 }
 
-fn too_many_of_a_kind(random: &mut Random) -> Vec<u8> {
+fn too_many_of_a_kind(random: &mut Random) -> Vec<Line> {
     let code = *random.pick(&["0020A", "0160A", "0150A"]);
     let (mut lines, found) = with_line(random, code);
     let at = *random.pick(&found);
@@ -93,11 +89,11 @@ fn too_many_of_a_kind(random: &mut Random) -> Vec<u8> {
         let line = records::of_text(random, code);
         lines.insert(at, line);
     }
-    join(&lines)
+    lines
 }
 
 /// A name or city record left out, doubled, or of the other group.
-fn name_or_city_wrong(random: &mut Random) -> Vec<u8> {
+fn name_or_city_wrong(random: &mut Random) -> Vec<Line> {
     let (code, other) = *random.pick(&[
         ("0110B", "0170B"),
         ("0170B", "0110B"),
@@ -116,11 +112,11 @@ fn name_or_city_wrong(random: &mut Random) -> Vec<u8> {
         }
         _ => lines[at].set(1, other),
     }
-    join(&lines)
+    lines
 }
 
 /// Another type, so that the name is there or not against the rule.
-fn another_type(random: &mut Random) -> Vec<u8> {
+fn another_type(random: &mut Random) -> Vec<Line> {
     let (mut lines, found) = with_line(random, "0100A");
     let at = *random.pick(&found);
     let kind = if lines[at].is("0100A1") {
@@ -129,26 +125,26 @@ fn another_type(random: &mut Random) -> Vec<u8> {
         *random.pick(&["0000", "0003", "0005", "0008"])
     };
     lines[at].set(6, kind);
-    join(&lines)
+    lines
 }
 
 /// A name or a city put in somewhere in the items.
-fn name_or_city_added(random: &mut Random) -> Vec<u8> {
+fn name_or_city_added(random: &mut Random) -> Vec<Line> {
     let (mut lines, found) = with_line(random, "0100A");
     let at = *random.pick(&found) + 1 + random.index(3);
     let at = at.min(lines.len());
     let code = *random.pick(&["0110B", "0170B", "0113B", "0173B"]);
     let line = records::stray(random, code);
     lines.insert(at, line);
-    join(&lines)
+    lines
 }
 
 /// A batch without items, or a file without batches.
-fn without_items(random: &mut Random) -> Vec<u8> {
+fn without_items(random: &mut Random) -> Vec<Line> {
     let mut lines = valid::file(random);
     if random.one_in(3) {
         lines.drain(1..lines.len() - 1);
-        return join(&lines);
+        return lines;
     }
     let first = lines_with(&lines, "0100A")[0];
     let end = lines_with(&lines, "9990A")[0];
@@ -156,12 +152,12 @@ fn without_items(random: &mut Random) -> Vec<u8> {
     if random.coin() {
         lines[first] = records::trailer(0, 0, 0);
     }
-    join(&lines)
+    lines
 }
 
 /// The trailer sums only the other parties, or only the own account, or
 /// carries over.
-fn wrong_sum(random: &mut Random) -> Vec<u8> {
+fn wrong_sum(random: &mut Random) -> Vec<Line> {
     let (mut lines, found) = with_line(random, "9990A");
     let at = found[0];
     let items = lines_with(&lines[..at], "0100A");
@@ -175,16 +171,16 @@ fn wrong_sum(random: &mut Random) -> Vec<u8> {
         _ => sum / 10,
     };
     lines[at].set(24, format!("{:010}", wrong % TEN_DIGITS));
-    join(&lines)
+    lines
 }
 
 /// The trailer of another batch, or a field of it spoiled.
-fn another_trailer(random: &mut Random) -> Vec<u8> {
+fn another_trailer(random: &mut Random) -> Vec<Line> {
     let (mut lines, found) = with_line(random, "9990A");
     let (one, other) = (*random.pick(&found), *random.pick(&found));
     lines.swap(one, other);
     if one == other {
         spoil_field(random, &mut lines[one]);
     }
-    join(&lines)
+    lines
 }

@@ -2,8 +2,8 @@
 
 use peer::table::{Field, CODES, FIELDS};
 
-use crate::bytes::wrong_end;
-use crate::line::{join, Line};
+use crate::ends;
+use crate::line::Line;
 use crate::random::Random;
 use crate::special::special;
 use crate::structure::spoil_code;
@@ -82,22 +82,22 @@ fn change_number(random: &mut Random, field: &mut [u8]) {
 }
 
 /// One field of one record, each field of the table as likely as another.
-pub fn field_damage(random: &mut Random) -> Vec<u8> {
+pub fn field_damage(random: &mut Random) -> Vec<Line> {
     let field = *random.pick(&FIELDS);
     let (mut lines, found) = with_line(random, field.code);
     let number = if random.one_in(3) { found[found.len() - 1] } else { *random.pick(&found) };
     spoil(random, &mut lines[number], field);
-    join(&lines)
+    lines
 }
 
 /// Two faults on one line: fields, code, place or line end.
-pub fn two_faults(random: &mut Random) -> Vec<u8> {
+pub fn two_faults(random: &mut Random) -> Vec<Line> {
     let code = random.pick(&CODES);
     let (mut lines, found) = with_line(random, code);
     let number = *random.pick(&found);
     spoil_field(random, &mut lines[number]);
     match random.below(10) {
-        0 => lines[number].end = wrong_end(random),
+        0 => lines[number].end = ends::wrong(random),
         1 => spoil_code(random, &mut lines[number]),
         2 => {
             // Out of place as well.
@@ -111,5 +111,5 @@ pub fn two_faults(random: &mut Random) -> Vec<u8> {
         }
         _ => spoil_field(random, &mut lines[number]),
     }
-    join(&lines)
+    lines
 }

@@ -2,7 +2,7 @@
 
 use peer::table::CODES;
 
-use crate::line::{join, Line};
+use crate::line::Line;
 use crate::random::Random;
 use crate::records;
 use crate::valid;
@@ -26,7 +26,7 @@ pub fn any_stray(random: &mut Random) -> Line {
 }
 
 /// Lines dropped, doubled, swapped, moved, inserted, or of another code.
-pub fn damage(random: &mut Random) -> Vec<u8> {
+pub fn damage(random: &mut Random) -> Vec<Line> {
     let mut lines = valid::file(random);
     let at = random.index(lines.len());
     let other = random.index(lines.len());
@@ -51,5 +51,5 @@ pub fn damage(random: &mut Random) -> Vec<u8> {
         8 => lines[at] = any_stray(random),
         _ => spoil_code(random, &mut lines[at]),
     }
-    join(&lines)
+    lines
 }
