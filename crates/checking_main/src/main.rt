@@ -13,7 +13,7 @@ use telling::put_field;
 use telling::put_name;
 use telling::put_words;
 
-// A line up to its end, so far: its bytes, the last of them, whether the end was met, and whether a read failed.
+// A line up to its byte 10, so far: its bytes, the last of them, whether that 10 was met, and whether a read failed.
 struct Extent {
     length: u64,
     last: u8,
@@ -63,7 +63,7 @@ fn measured(before: Extent, bytes: &[u8]) -> Extent {
     m
 }
 
-// The bytes before a line's end, which is 10, or 13 and 10.
+// The bytes before a line's end, which is 13 and 10, or 10 alone.
 fn length_of(m: Extent) -> u64 {
     if m.ended {
         if m.last == 13 {
@@ -158,6 +158,22 @@ fn put_where(page: &mut [u8], at: usize, line: u64, column: u8, code: Code) -> u
     put_field(page, e, code, column)
 }
 
+// How a line of 50 characters is broken: its end is not that of the first line.
+fn put_other_end(page: &mut [u8], at: usize, last: u8) -> usize {
+    if last == 13 {
+        return put_text(
+            page,
+            at,
+            b": it ends with 13 and 10, the first line with byte 10 alone",
+        );
+    }
+    put_text(
+        page,
+        at,
+        b": it ends with byte 10 alone, the first line with 13 and 10",
+    )
+}
+
 // How a line is broken, where it is.
 fn put_how(page: &mut [u8], at: usize, number: u8, m: Extent) -> usize {
     let n = length_of(m);
@@ -170,11 +186,7 @@ fn put_how(page: &mut [u8], at: usize, number: u8, m: Extent) -> usize {
         return put_text(page, b, b" of it");
     }
     if n == 50 {
-        return put_text(
-            page,
-            at,
-            b": it ends with byte 10 alone, without 13 before it",
-        );
+        return put_other_end(page, at, m.last);
     }
     let a = put_text(page, at, b": its length is ");
     let b = put_digits(page, a, n);

@@ -49,7 +49,8 @@ pub extern "C" fn clieop_check(file: &[u8]) -> u64
     pack(a)
 }
 
-// A file written again without its city records to the front of `out`, and to `written` how many bytes that are.
+// A file written again without its city records, its lines ended by 13, 10, to the front of `out`, and to `written`
+// how many bytes that are.
 #[no_mangle]
 pub extern "C" fn clieop_rewrite(file: &[u8], out: &mut [u8], written: &mut u64) -> u64
     ensures number { λ r. ⌜ r ≡ packed (rewrittenOf (now (file .entry)) (length (now (out .entry))) .answer) ⌝ }

@@ -1,8 +1,8 @@
 -- A test at every byte of a slice, the same bytes, and a part. Assumes nothing.
-use Prim.Native.Nat.{ℕ, suc, _+_, _-_, _<_, _≤_}
+use Prim.Native.Nat.{ℕ, _+_, _-_, _<_, _≤_}
 use mathlib.Core.Path.{_≡_, refl, sym, ap, _∙_}
 use mathlib.Core.List.{List, [], _∷_}
-use mathlib.Core.Bool.{Bool, true, false, not, _&&_, and-true, and-false, and-assoc}
+use mathlib.Core.Bool.{Bool, true, false, not, _&&_, and-true, and-assoc}
 use native.Mathlib.Omega.{arith}
 use native.Mathlib.Nat.{add-sub-cancel-left}
 use native.Mathlib.Numerals.{add-one}
@@ -11,6 +11,7 @@ use lib.ListN.{length, getD, take, drop, drop-of-length-le, length-drop}
 use lib.Seq.{drop-cons, take-all}
 use lib.Dec.{eqb}
 use Rattle.machine.specs.Lists.{all, same}
+use Rattle.machine.proofs.Base.{unlike}
 use Rattle.format.specs.Cutting.{cutOf, nextLine}
 use Rattle.format.specs.Fields.{leftJustified}
 use Rattle.format.specs.declared.Cut.{Cut}
@@ -46,13 +47,6 @@ pub record Alike (a b : List ℕ) (ok : Bool) (i : ℕ) : Type 0 where
 
 pub alike-none : (a b : List ℕ) → Alike a b true 0
 alike-none a b = record { within = omega arith; rest = refl }
-
-pub unlike : (a b : List ℕ) → (length a ≡ length b → ⊥) → false ≡ same a b
-unfolding same
-unlike [] [] h = absurd (h refl)
-unlike [] (y ∷ ys) h = refl
-unlike (x ∷ xs) [] h = refl
-unlike (x ∷ xs) (y ∷ ys) h = rw (← unlike xs ys (λ e. h (ap suc e))) (sym (and-false (eqb x y)))
 
 module _ {a b : List ℕ} {ok : Bool} {i : ℕ} (r : Alike a b ok i) (n : length a ≡ length b) where
   pub alike-all : length a ≤ i → ok ≡ same a b

@@ -4,9 +4,9 @@ use native.Mathlib.Omega.{arith}
 use Rattle.machine.specs.Lists.{pick, same}
 use Rattle.machine.specs.Digits.{digitsOnto, decimal, valueAfter}
 use Rattle.format.specs.Rules.{isTestCode, daysIn, isDate, isDesiredDate, isIdentification, isOfDay, weighted, isEleven, isOrderingAccount, isAccount, isOwnIf, isNameCodeIn, typeOf}
-use Rattle.format.specs.Language.{ItemOk, BatchOk, noneBefore, Valid, crlf, linesOf, Reads}
+use Rattle.format.specs.Language.{ItemOk, BatchOk, noneBefore, Valid, crlf, lf, linesOf, Reads}
 use Rattle.format.specs.declared.Group.the-variants.{Payments}
-use Rattle.file.specs.Example.{example, salary, uncheckedSalary, exampleBatch, exampleFile}
+use Rattle.file.specs.Example.{end1310, end10, example, salary, uncheckedSalary, exampleBatch, exampleFile}
 use Rattle.file.proofs.Paying.{payment-ok}
 
 salary-ok : ItemOk Payments 123456789 salary
@@ -61,6 +61,10 @@ valid =
       batches-ok = (batch-ok, tt);
     }
 
-pub example-reads : Reads example exampleFile
+pub example-1310 : Reads (example end1310) exampleFile
 unfolding Reads linesOf digitsOnto decimal
-example-reads = (valid, (crlf, refl))
+example-1310 = (valid, (crlf, refl))
+
+pub example-10 : Reads (example end10) exampleFile
+unfolding Reads linesOf digitsOnto decimal
+example-10 = (valid, (lf, refl))

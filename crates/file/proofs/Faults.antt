@@ -6,10 +6,10 @@ use mathlib.Core.Bool.{Bool, true, false, not}
 use native.Mathlib.Omega.{arith}
 use borrow.Author.Tests.{ne-eqb}
 use lib.ListN.{take, drop}
-use lib.Seq.{take-take, take-nil, drop-drop}
+use lib.Seq.{take-take, drop-drop}
 use lib.Dec.{T, eqb, eqb→eq}
 use Rattle.machine.specs.Lists.{pick}
-use Rattle.machine.proofs.Base.{refuse}
+use Rattle.machine.proofs.Base.{drop-take, refuse}
 use Rattle.format.specs.Fields.{Field, width, widths, wellFormed, readField, readFields}
 use Rattle.format.specs.Records.{layout, Fields}
 use Rattle.format.specs.Tests.{Test, test, Check, check, Tests}
@@ -29,11 +29,6 @@ use Rattle.record.proofs.Faultless.{AllNumbered, numbered, faultless}
 use Rattle.record.specs.Faults.{faultAt, noFault, firstFault, fieldsOf, testsFor, maximaFor, faultOf}
 
 -- ## Fields by their columns
-
-pub drop-take : (w r : ℕ) (l : List ℕ) → drop w (take (w + r) l) ≡ take r (drop w l)
-drop-take zero r l = let e : zero + r ≡ r = omega arith in ap (λ n. take n l) e
-drop-take (suc w) r [] = ap (drop (suc w)) (take-nil (suc w + r)) ∙ sym (take-nil r)
-drop-take (suc w) r (x ∷ l) = let e : suc w + r ≡ suc (w + r) = omega arith in ap (λ n. drop (suc w) (take n (x ∷ l))) e ∙ drop-take w r l
 
 first-field : (c w r : ℕ) (xs : List ℕ) → take w (partAt c (w + r) xs) ≡ partAt c w xs
 first-field c w r xs = take-take w (w + r) (drop (c - 1) xs) (omega arith)

@@ -94,7 +94,7 @@ begins-item g p b x = ap₂ at (opens-item g (needsName (typeOf (type x)))) (add
 -- ## An edge of the reader from a state: the same tests, and the place of the next state
 
 abbrev inGroup : Group → Before → Before
-inGroup g a = record { sequence = a .sequence; group = g; known = a .known }
+inGroup g a = record { sequence = a .sequence; group = g; known = a .known; ending = a .ending }
 
 abbrev stateAt : ℕ → Stage → Before → Batch → Name → Bool → ℕ → State
 stateAt n p a b m r d = record { line = n; stage = p; before = a; batch = b; item = record { name = m; reference = r; descriptions = d } }

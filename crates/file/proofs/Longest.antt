@@ -8,7 +8,7 @@ use lib.ListN.{length, replicate, length-replicate}
 use Rattle.machine.specs.Lists.{pick, same}
 use Rattle.machine.specs.Digits.{valueAfter}
 use Rattle.format.specs.Rules.{isTestCode, daysIn, isDate, isDesiredDate, isIdentification, isOfDay, weighted, isEleven, isOrderingAccount, isAccount, isOwnIf, isNameCodeIn, typeOf, typeText}
-use Rattle.format.specs.Language.{Item, Batch, File, totalOf, accountsOf, tenDigits, Rec, itemsRecs, batchTrailerRec, batchesRecs, fileTrailerRecs, fileRecs, ItemOk, ItemsOk, Follows, BatchOk, BatchesOk, Valid, Ending, crlf, endBytes, lineOf, linesOf, Reads}
+use Rattle.format.specs.Language.{Item, Batch, File, totalOf, accountsOf, tenDigits, Rec, itemsRecs, batchTrailerRec, batchesRecs, fileTrailerRecs, fileRecs, ItemOk, ItemsOk, Follows, BatchOk, BatchesOk, Valid, Ending, endBytes, lineOf, linesOf, Reads}
 use Rattle.format.specs.Cutting.{linesFrom, linesIn}
 use Rattle.format.specs.Answers.{acceptance}
 use Rattle.format.specs.declared.Group.the-variants.{Payments}
@@ -154,20 +154,21 @@ module _ (n : ℕ) (full : n ≡ 100000) where
     unfolding file
     records = omega (arith, batches-lines 0 k fileTrailerRecs)
 
-    its-bytes : List ℕ
-    its-bytes = linesOf (endBytes crlf) (fileRecs file)
+    its-bytes : Ending → List ℕ
+    its-bytes z = linesOf (endBytes z) (fileRecs file)
 
-    taken : (n : ℕ) × (checkOf its-bytes ≡ acceptance n)
+    taken : (z : Ending) → (n : ℕ) × (checkOf (its-bytes z) ≡ acceptance n)
     unfolding its-bytes Reads
-    taken = language its-bytes .1 (file, (valid, (crlf, refl)))
+    taken z = language (its-bytes z) .1 (file, (valid, (z, refl)))
 
-    as-long : (b : List ℕ) × (checkOf b ≡ acceptance 6999369995)
+    as-long : (z : Ending) → (f : File) × (checkOf (linesOf (endBytes z) (fileRecs f)) ≡ acceptance 6999369995)
     unfolding its-bytes
-    as-long =
-        let l = path-lines (complete file valid) crlf in
-        let m = count-lines (lines-read its-bytes (taken .0) (taken .1)) in
-        let e : taken .0 ≡ 6999369995 = omega (arith, records) in
-        (its-bytes, subst (λ j. checkOf its-bytes ≡ acceptance j) e (taken .1))
+    as-long z =
+        let t = taken z in
+        let l = path-lines (complete file valid) z in
+        let m = count-lines (lines-read (its-bytes z) (t .0) (t .1)) in
+        let e : t .0 ≡ 6999369995 = omega (arith, records) in
+        (file, subst (λ j. checkOf (its-bytes z) ≡ acceptance j) e (t .1))
 
 -- THE LONGEST ACCEPTED FILE has 6,999,369,995 lines
 pub longest : Longest maxLine

@@ -11,10 +11,11 @@ use Rattle.format.specs.Records.{layout, code}
 use Rattle.format.proofs.Cutting.{cut-bytes, whole-long}
 use Rattle.format.proofs.Link as link
 use Rattle.format.proofs.Printable.{record-printable}
-use Rattle.reading.specs.Step.{judgedLine, judgedFirst}
+use Rattle.format.specs.Cutting.{cutOf}
+use Rattle.reading.specs.Step.{judgedLine, cutOff, judgedFirst}
 use Rattle.reading.specs.declared.State.{State}
 use Rattle.reading.specs.declared.Judged.{Judged}
-use Rattle.reading.proofs.Verdicts.{Taken}
+use Rattle.reading.proofs.Verdicts.{Taken, cut-number}
 use Rattle.file.proofs.Places.{phaseOf, contextOf, placeOf}
 use Rattle.file.proofs.Lines.{Agrees, goes, stops, line-agrees}
 
@@ -26,10 +27,12 @@ taken-printable {s} {xs} t = by (line-agrees s l) number
     l = take 50 xs
 
     long : length l ≡ 50
-    long = length-take 50 xs ∙ omega (arith, cut-bytes xs, whole-long xs (t .whole))
+    long = length-take 50 xs ∙ omega (arith, cut-bytes xs, whole-long (s .before .ending) xs (t .whole))
 
     number : judgedLine s l .number ≡ 0
-    number = let e : judgedLine s l ≡ _ = rw (t .limits, t .unended, t .whole) at (t .is) in ap (λ (j : Judged). j .number) e
+    number =
+        let e : cutOff (cutOf xs) (judgedLine s l) ≡ _ = rw (t .limits, t .unended, t .whole) at (t .is) in
+        sym (cut-number (cutOf xs) (judgedLine s l)) ∙ ap (λ (j : Judged). j .number) e
 
     by : {j : Judged} → Agrees s l j → j .number ≡ 0 → T (all printable l)
     by (goes k u e d) z =

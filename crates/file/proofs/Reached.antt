@@ -8,15 +8,16 @@ use native.Mathlib.Omega.{arith}
 use lib.ListN.{take}
 use Rattle.machine.specs.Lists.{pick}
 use Rattle.format.specs.Answers.{beyondLimits, refusal, acceptance}
-use Rattle.format.specs.Cutting.{cutOf}
+use Rattle.format.specs.Cutting.{isOpen, cutOf}
 use Rattle.format.specs.declared.Code.{Code}
 use Rattle.format.specs.declared.Code.the-variants.{Of, Unknown}
 use Rattle.reading.specs.State.{within}
-use Rattle.reading.specs.Step.{refused, judgedLine, isDone, judgedFirst, readBy, endedAt, stepAt}
+use Rattle.reading.specs.Step.{refused, judgedLine, cutOff, isDone, judgedFirst, readBy, endedAt, stepAt}
 use Rattle.reading.specs.declared.State.{State}
 use Rattle.reading.specs.declared.Judged.{Judged}
 use Rattle.file.specs.Reached.{Reached, at-start, one-step}
 use Rattle.file.proofs.Lines.{Agrees, goes, stops, line-agrees}
+use Rattle.reading.proofs.Verdicts.{cut-number}
 use Rattle.file.proofs.Reach.{Reach, reach-start, reach-within, reach-next}
 
 -- ## What a step makes of a state
@@ -35,11 +36,11 @@ small-line (stops column number h e) = omega arith
 
 small-first : (s : State) (xs : List ℕ) → within s ≡ true → judgedFirst s xs .number ≤ 11
 unfolding judgedFirst pick
-small-first s xs w = rw w (by (isDone s) (cutOf xs .whole))
+small-first s xs w = rw w (by (isDone s) (isOpen (s .before .ending) (cutOf xs .ending)))
   where
-    by : (p q : Bool) → pick p (refused s 0 11) (pick q (judgedLine s (take 50 xs)) (refused s 0 1)) .number ≤ 11
+    by : (p q : Bool) → pick p (refused s 0 11) (pick q (cutOff (cutOf xs) (judgedLine s (take 50 xs))) (refused s 0 1)) .number ≤ 11
     by true q = omega arith
-    by false true = small-line (line-agrees s (take 50 xs))
+    by false true = subst (λ n. n ≤ 11) (sym (cut-number (cutOf xs) (judgedLine s (take 50 xs)))) (small-line (line-agrees s (take 50 xs)))
     by false false = omega arith
 
 read : (line : List ℕ) (c : Code) (j : Judged) → j .number ≤ 11 → (readBy line c j .next ≡ j .next) × (readBy line c j .answer .number ≤ 11)

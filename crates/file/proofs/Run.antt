@@ -10,19 +10,21 @@ use lib.ListN.{length, take, drop, length-drop}
 use lib.Seq.{take-take}
 use Rattle.machine.specs.Lists.{pick}
 use Rattle.machine.specs.Lines.{Split}
-use Rattle.machine.proofs.Base.{next}
+use Rattle.machine.proofs.Base.{next, drop-take}
 use Rattle.machine.proofs.Base as base
 use Rattle.machine.proofs.Lines.{follow, on-line, run}
 use Rattle.machine.proofs.Lines as lines
 use Rattle.format.specs.Language.{In}
-use Rattle.format.specs.Cutting.{cutOf, nextLine, afterNext, linesFrom, linesIn, noEnding, cut, turn}
+use Rattle.format.specs.Cutting.{isOpen, cutOf, nextLine, afterNext, linesFrom, linesIn, cut, turn}
 use Rattle.format.specs.Answers.{refusal, acceptance}
 use Rattle.format.specs.declared.Answer.{Answer}
+use Rattle.format.specs.declared.Cut.{Cut}
+use Rattle.format.specs.declared.EndingSoFar.{EndingSoFar}
 use Rattle.format.specs.declared.Group.{Group}
 use Rattle.format.specs.declared.Group.the-variants.{Payments, Debits}
 use Rattle.format.proofs.Reader.{Room, ended, isEnd, step}
 use Rattle.format.proofs.Reader as the
-use Rattle.format.proofs.Cutting.{cut-bytes}
+use Rattle.format.proofs.Cutting.{cut-bytes, cut-own}
 use Rattle.format.proofs.Theorem.{readFile}
 use Rattle.record.specs.Faults.{knownGroup}
 use Rattle.reading.specs.declared.Stage.{Stage}
@@ -33,11 +35,10 @@ use Rattle.reading.specs.declared.State.{State}
 use Rattle.reading.specs.declared.Judged.{Judged}
 use Rattle.reading.specs.State.{startState, isLimited, within}
 use Rattle.reading.specs.Order.{isStage}
-use Rattle.reading.specs.Step.{refused, taken, judgedLine, isDone, judgedFirst, endedAt}
+use Rattle.reading.specs.Step.{refused, taken, judgedLine, takenOff, cutOff, isDone, judgedFirst, endedAt}
 use Rattle.reading.specs.Check.{judgedAfter, judgedLines, answerBy, checkOf, restOf}
 use Rattle.reading.proofs.Running.{goingOn, lines-on}
 use Rattle.file.proofs.Places.{phaseIn, phaseOf, contextOf, placeOf, roomOf}
-use Rattle.file.proofs.Faults.{drop-take}
 use Rattle.file.proofs.Lines.{Agrees, goes, stops, line-agrees}
 use Rattle.file.proofs.Reach.{Reach, reach-start, reach-line, reach-within, reach-next}
 
@@ -76,12 +77,12 @@ step-50 s c = ap₂ (λ c l. the.found (contextOf (s .before) (s .batch)) c l (t
 step-next : (s : State) (b : List ℕ) → step (placeOf s) (nextLine b) ≡ step (placeOf s) (take 50 b)
 step-next s b = sym (step-50 s (nextLine b)) ∙ ap (step (placeOf s)) (take-take 50 (cutOf b .bytes) b (omega (arith, cut-bytes b)))
 
-abbrev theRun : ℕ → the.State → ℕ → List ℕ → base.Result
-theRun k s n b = run the.State step isEnd cut turn k s noEnding n b
+abbrev theRun : ℕ → the.State → EndingSoFar → ℕ → List ℕ → base.Result
+theRun k s e n b = run the.State step isEnd cut turn k s e n b
 
 -- from a line that is cut off, or none
 abbrev onCut : ℕ → State → Split → base.Result
-onCut k s o = on-line the.State step isEnd cut turn o (placeOf s) noEnding (s .line) (λ u e r. theRun k u (suc (s .line)) r)
+onCut k s o = on-line the.State step isEnd cut turn o (placeOf s) (s .before .ending) (s .line) (λ u e r. theRun k u e (suc (s .line)) r)
 
 -- no bytes remain
 at-none : (j : Judged) → j .number ≡ 0 → Reach (j .next) → (q : Bool) → isDone (j .next) ≡ q → Says (answerBy j) (cond q (base.accepted (j .next .line)) (base.refused 10 (suc (j .next .line)) 0))
@@ -91,13 +92,13 @@ at-none j z i false q =
     let e : j .next .line + 1 ≡ suc (j .next .line) = omega arith in
     rw (eq-eqb (j .number) 0 z, reach-within (j .next) i, q, e) (no 10 (suc (j .next .line)) 0 (omega arith))
 
-module _ (k : ℕ) (ih : (j : Judged) (b : List ℕ) → length b < k → j .number ≡ 0 → Reach (j .next) → Says (answerBy (judgedAfter j (linesIn b))) (theRun k (placeOf (j .next)) (j .next .line) b)) (s : State) (i : Reach s) (b : List ℕ) (p : 0 < length b) (l : length b < suc k) where
+module _ (k : ℕ) (ih : (j : Judged) (b : List ℕ) → length b < k → j .number ≡ 0 → Reach (j .next) → Says (answerBy (judgedAfter j (linesIn b))) (theRun k (placeOf (j .next)) (j .next .before .ending) (j .next .line) b)) (s : State) (i : Reach s) (b : List ℕ) (p : 0 < length b) (l : length b < suc k) where
   -- the answer after a first line
   abbrev answered : Judged → Answer
   answered j = answerBy (goingOn j (linesIn (afterNext b)))
 
   abbrev rest : the.State → base.Result
-  rest u = theRun k u (suc (s .line)) (afterNext b)
+  rest u = theRun k u (turn (s .before .ending) (nextLine b)) (suc (s .line)) (afterNext b)
 
   -- a refusal names the next line
   refusing : (number column : ℕ) → In 1 11 number → Says (answered (refused s column number)) (base.refused number (suc (s .line)) column)
@@ -107,37 +108,44 @@ module _ (k : ℕ) (ih : (j : Judged) (b : List ℕ) → length b < k → j .num
       let z = ne-eqb number 0 (omega arith) in
       rw (z, z, ne-eqb number 24 (omega arith), e) (no number (suc (s .line)) column h)
 
-  at-line : {j : Judged} → Agrees s (take 50 b) j → Reach (j .next) → Says (answered j) (follow the.State step isEnd cut turn (step (placeOf s) (nextLine b)) (s .line) rest)
-  unfolding pick
+  at-line : {j : Judged} → Agrees s (take 50 b) j → Reach (cutOff (cutOf b) j .next) → Says (answered (cutOff (cutOf b) j)) (follow the.State step isEnd cut turn (step (placeOf s) (nextLine b)) (s .line) rest)
+  unfolding cutOff pick
   at-line (goes m u e d) r =
+      let j = takenOff (cutOf b) (taken m u) in
       let n : u .line ≡ suc (s .line) = d ∙ omega arith in
-      subst (λ o. Says (answered (taken m u)) (follow the.State step isEnd cut turn o (s .line) rest)) (sym (step-next s b ∙ e))
-      (subst (λ n. Says (answered (taken m u)) (theRun k (placeOf u) n (afterNext b))) n
-      (ih (taken m u) (afterNext b) (simp length-drop (omega (arith, cut-bytes b))) refl r))
+      let f : cutOf b .ending ≡ turn (s .before .ending) (nextLine b) = ap (λ (c : Cut). c .ending) (sym (cut-own b)) in
+      subst (λ o. Says (answered j) (follow the.State step isEnd cut turn o (s .line) rest)) (sym (step-next s b ∙ e))
+      (subst (λ n. Says (answered j) (theRun k (placeOf u) (turn (s .before .ending) (nextLine b)) n (afterNext b))) n
+      (subst (λ y. Says (answered j) (theRun k (placeOf u) y (u .line) (afterNext b))) f
+      (ih j (afterNext b) (simp length-drop (omega (arith, cut-bytes b))) refl r)))
   at-line (stops column number h e) r =
-      subst (λ o. Says (answered (refused s column number)) (follow the.State step isEnd cut turn o (s .line) rest)) (sym (step-next s b ∙ e)) (refusing number column (omega arith))
+      subst (λ o. Says (answered (cutOff (cutOf b) (refused s column number))) (follow the.State step isEnd cut turn o (s .line) rest)) (sym (step-next s b ∙ e))
+      (rw (ne-eqb number 0 (omega arith)) (refusing number column (omega arith)))
 
-  at-whole : (q : Bool) → Reach (pick q (judgedLine s (take 50 b)) (refused s 0 1) .next) → Says (answered (pick q (judgedLine s (take 50 b)) (refused s 0 1))) (onCut k s (cond q (some (nextLine b, afterNext b)) none))
-  unfolding pick
+  line : Judged
+  line = cutOff (cutOf b) (judgedLine s (take 50 b))
+
+  at-whole : (q : Bool) → Reach (pick q line (refused s 0 1) .next) → Says (answered (pick q line (refused s 0 1))) (onCut k s (cond q (some (nextLine b, afterNext b)) none))
+  unfolding line pick
   at-whole true r = at-line (line-agrees s (take 50 b)) r
   at-whole false r = refusing 1 0 (omega arith)
 
   first-line : Judged
-  first-line = pick (cutOf b .whole) (judgedLine s (take 50 b)) (refused s 0 1)
+  first-line = pick (isOpen (s .before .ending) (cutOf b .ending)) line (refused s 0 1)
 
   judged : (q : Bool) → isDone s ≡ q → judgedFirst s b ≡ pick q (refused s 0 11) first-line
-  unfolding judgedFirst first-line pick
+  unfolding judgedFirst first-line line pick
   judged q e = rw (reach-within s i, e)
 
-  at-block : (q : Bool) → isDone s ≡ q → Says (answered (judgedFirst s b)) (cond q (base.refused 11 (suc (s .line)) 0) (onCut k s (cut noEnding b)))
+  at-block : (q : Bool) → isDone s ≡ q → Says (answered (judgedFirst s b)) (cond q (base.refused 11 (suc (s .line)) 0) (onCut k s (cut (s .before .ending) b)))
   unfolding first-line pick
   at-block true e = subst (λ j. Says (answered j) (base.refused 11 (suc (s .line)) 0)) (sym (judged true e)) (refusing 11 0 (omega arith))
   at-block false e =
       let a = judged false e in
-      subst (λ j. Says (answered j) (onCut k s (cut noEnding b))) (sym a)
-      (at-whole (cutOf b .whole) (subst (λ (j : Judged). Reach (j .next)) a (reach-next s b i)))
+      subst (λ j. Says (answered j) (onCut k s (cut (s .before .ending) b))) (sym a)
+      (at-whole (isOpen (s .before .ending) (cutOf b .ending)) (subst (λ (j : Judged). Reach (j .next)) a (reach-next s b i)))
 
-simulates : (k : ℕ) (j : Judged) (b : List ℕ) → length b < k → j .number ≡ 0 → Reach (j .next) → Says (answerBy (judgedAfter j (linesIn b))) (theRun k (placeOf (j .next)) (j .next .line) b)
+simulates : (k : ℕ) (j : Judged) (b : List ℕ) → length b < k → j .number ≡ 0 → Reach (j .next) → Says (answerBy (judgedAfter j (linesIn b))) (theRun k (placeOf (j .next)) (j .next .before .ending) (j .next .line) b)
 unfolding run judgedAfter linesFrom
 simulates zero j b l z i = absurd (omega arith)
 simulates (suc k) j [] l z i =
@@ -146,8 +154,8 @@ simulates (suc k) j [] l z i =
 simulates (suc k) j (x ∷ xs) l z i =
     let s = j .next in
     let b = x ∷ xs in
-    subst (λ (j : Judged). Says (answerBy j) (theRun (suc k) (placeOf s) (s .line) b)) (sym (lines-on j b (omega arith)))
-    (subst (λ q. Says (answered k (simulates k) s i b (omega arith) l (judgedFirst s b)) (cond q (base.refused 11 (suc (s .line)) 0) (onCut k s (cut noEnding b)))) (sym (done-at s))
+    subst (λ (j : Judged). Says (answerBy j) (theRun (suc k) (placeOf s) (s .before .ending) (s .line) b)) (sym (lines-on j b (omega arith)))
+    (subst (λ q. Says (answered k (simulates k) s i b (omega arith) l (judgedFirst s b)) (cond q (base.refused 11 (suc (s .line)) 0) (onCut k s (cut (s .before .ending) b)))) (sym (done-at s))
     (at-block k (simulates k) s i b (omega arith) l (isDone s) refl))
 
 -- THE SAME ANSWER for every list of bytes

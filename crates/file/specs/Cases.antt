@@ -1,7 +1,7 @@
--- 01's cases that are proved (1 to 11) and its example, of the definitions that the contracts name, in one table.
+-- 01's cases that are proved (1 to 11), its example with each line end, and those of 02's request [1], of the definitions that the contracts name, in one table.
 use mathlib.Core.Path.{_≡_}
 use mathlib.Core.Bool.{Bool, true, false}
-use mathlib.Core.List.{List, [], _∷_}
+use mathlib.Core.List.{List, [], _∷_, _++_}
 use mathlib.Core.Option.{none}
 use Prim.Native.Nat.{ℕ, _+_, _*_}
 use Prim.Native.String.{String}
@@ -11,8 +11,10 @@ use Rattle.machine.specs.Texts.{characters}
 use Rattle.descriptions.specs.Texts.{mergeOf}
 use Rattle.format.specs.Rules.{maxAmount, mostDescriptions, weighted, isEleven, isDate, typeText}
 use Rattle.format.specs.Language.{File, Rec, batchHeaderRec, batchTrailerRec, crlf, endBytes, lineOf, Reads}
-use Rattle.format.specs.Answers.{accepted, wrongValue, wrongAccount, differs, aboveMaximum, endsEarly, refusal, acceptance}
+use Rattle.format.specs.Answers.{accepted, brokenLine, wrongForm, wrongValue, wrongAccount, differs, aboveMaximum, endsEarly, refusal, acceptance}
 use Rattle.format.specs.declared.Answer.{Answer}
+use Rattle.format.specs.declared.EndingSoFar.{EndingSoFar}
+use Rattle.format.specs.declared.EndingSoFar.the-variants.{Unknown, CrLf, Lf}
 use Rattle.format.specs.declared.Kind.the-variants.{Transaction}
 use Rattle.format.specs.declared.Group.{Group}
 use Rattle.format.specs.declared.Group.the-variants.{Payments, Debits}
@@ -21,13 +23,13 @@ use Rattle.record.specs.Faults.{nothingBefore, afterHeader, faultAt, noFault, f
 use Rattle.record.specs.declared.Before.{Before}
 use Rattle.record.specs.declared.Batch.{Batch}
 use Rattle.record.specs.declared.Fault.{Fault}
-use Rattle.reading.specs.State.{noItem}
+use Rattle.reading.specs.State.{noItem, startState}
 use Rattle.reading.specs.Step.{stepAt}
 use Rattle.reading.specs.Check.{checkOf}
 use Rattle.reading.specs.declared.Stage.the-variants.{Ordered}
 use Rattle.reading.specs.declared.State.{State}
 use Rattle.reading.specs.declared.LineRead.{LineRead}
-use Rattle.file.specs.Example.{example, exampleFile}
+use Rattle.file.specs.Example.{end1310, end10, example, exampleFile}
 
 pub data Case : Type 0 where
   -- an account, its weighted sum, and whether it passes the eleven check
@@ -44,6 +46,8 @@ pub data Case : Type 0 where
   file : List ℕ → Answer → Case
   -- and the file that they are, which is then the only one
   reading : List ℕ → File → Case
+  -- the bytes of a file, how many of them its first line takes, and the ending that the state has after it
+  firstLine : List ℕ → ℕ → EndingSoFar → Case
 
 -- after a batch header of a group and a number
 abbrev after : Group → ℕ → Before
@@ -108,6 +112,7 @@ Holds (accountSum payer beneficiary sum accounts digits) =
 Holds (merging reference fixed own handed) = mergeOf (mostDescriptions reference) fixed own ≡ handed
 Holds (file bytes answer) = checkOf bytes ≡ answer
 Holds (reading bytes f) = Reads bytes f
+Holds (firstLine bytes n ending) = (stepAt startState bytes .bytes ≡ n) × (stepAt startState bytes .next .before .ending ≡ ending)
 
 abbrev pub Each : List Case → Type 0
 Each [] = Unit {0}
@@ -170,13 +175,30 @@ sequenceCases =
     ∷ line (after Payments 9999) (batch 0 0 0) (header 0) (faultAt 18 wrongValue)
     ∷ []
 
--- 10, and the example
+-- 10, and the example with each line end
 abbrev pub fileCases : List Case
 fileCases =
     file [] (refusal endsEarly 1 0)
-    ∷ file example (acceptance 9)
-    ∷ reading example exampleFile
+    ∷ file (example end1310) (acceptance 9)
+    ∷ reading (example end1310) exampleFile
+    ∷ file (example end10) (acceptance 9)
+    ∷ reading (example end10) exampleFile
+    ∷ []
+
+-- 'The first line fixes which, and the other ending later is a broken line': line 2 of the example after a line 1 with the other end. Then a first line with 13 and no byte after it, with 32 and 10, and with no end; with 13 as the last of 50 characters before a 10; and how many bytes a first line takes, and what it fixes
+abbrev pub endingCases : List Case
+endingCases =
+    file (take 52 (example end1310) ++ drop 51 (example end10)) (refusal brokenLine 2 0)
+    ∷ file (take 51 (example end10) ++ drop 52 (example end1310)) (refusal brokenLine 2 0)
+    ∷ file (take 50 (example end10) ++ (13 ∷ [])) (refusal brokenLine 1 0)
+    ∷ file (take 50 (example end10) ++ (32 ∷ 10 ∷ [])) (refusal brokenLine 1 0)
+    ∷ file (take 50 (example end10)) (refusal brokenLine 1 0)
+    ∷ file (take 49 (example end10) ++ (13 ∷ 10 ∷ [])) (refusal wrongForm 1 30)
+    ∷ firstLine (example end1310) 52 CrLf
+    ∷ firstLine (example end10) 51 Lf
+    ∷ firstLine (take 50 (example end10)) 0 Unknown
+    ∷ firstLine [] 0 Unknown
     ∷ []
 
 abbrev pub cases : List (List Case)
-cases = accountCases ∷ amountCases ∷ sumCases ∷ dateCases ∷ descriptionCases ∷ sequenceCases ∷ fileCases ∷ []
+cases = accountCases ∷ amountCases ∷ sumCases ∷ dateCases ∷ descriptionCases ∷ sequenceCases ∷ fileCases ∷ endingCases ∷ []

@@ -6,21 +6,28 @@ use Prim.Native.String.{String}
 use lib.ListN.{take}
 use Rattle.machine.specs.Lists.{spaces}
 use Rattle.machine.specs.Texts.{characters}
-use Rattle.format.specs.Language.{Item, Batch, File, crlf, endBytes}
+use Rattle.format.specs.Language.{Item, Batch, File}
 use Rattle.format.specs.declared.Group.the-variants.{Payments}
 
 -- so many characters of a text, filled with spaces
 abbrev pub paddedTo : ℕ → String → List ℕ
 paddedTo w t = take w (characters t ++ spaces w)
 
--- lines of 50 characters with their ends
-abbrev pub textLines : List String → List ℕ
-textLines [] = []
-textLines (t ∷ ts) = paddedTo 50 t ++ (endBytes crlf ++ textLines ts)
+-- lines of 50 characters, each with that end
+abbrev pub textLines : List ℕ → List String → List ℕ
+textLines end [] = []
+textLines end (t ∷ ts) = paddedTo 50 t ++ (end ++ textLines end ts)
 
-abbrev pub example : List ℕ
-example =
-    textLines
+-- 'either 13, 10 or 10 alone'
+abbrev pub end1310 : List ℕ
+end1310 = 13 ∷ 10 ∷ []
+
+abbrev pub end10 : List ℕ
+end10 = 10 ∷ []
+
+abbrev pub example : List ℕ → List ℕ
+example end =
+    textLines end
     ("0001A150309CLIEOP03NACHT15011"
     ∷ "0010B0001234567890001EUR"
     ∷ "0020ASALARIS MAART"

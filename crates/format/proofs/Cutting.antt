@@ -1,6 +1,6 @@
 -- All that is known of how lines are cut and ended. What depends on the ends there are stands first; the rest follows from it.
 use mathlib.Core.Path.{_≡_, refl, sym, ap, ap₂, _∙_, subst}
-use mathlib.Core.Bool.{Bool, true, false, cond, _&&_, and-true, and-false}
+use mathlib.Core.Bool.{Bool, true, false, cond, _&&_, and-true}
 use mathlib.Core.List.{List, [], _∷_, _++_}
 use mathlib.Core.Option.{none, some}
 use Prim.Native.Nat.{ℕ, zero, suc, _+_, _-_, _≤_, _<_}
@@ -8,41 +8,66 @@ use native.Mathlib.Omega.{arith}
 use lib.ListN.{length, getD, take, drop, length-take, length-drop, length-append, take-append-drop, drop-of-length-le}
 use lib.Seq.{take-all, take-at, drop-at, take-take, take-append-le, drop-drop, drop-cons, getD-take, length-take-le}
 use lib.Dec.{eqb}
-use Rattle.machine.specs.Lists.{same}
+use borrow.Author.Tests.{ne-eqb}
+use Rattle.machine.specs.Lists.{pick, same}
 use Rattle.machine.specs.Lines.{Split, Exactly, no-lines, one-more}
-use Rattle.machine.proofs.Base.{same→eq, of-eq}
+use Rattle.machine.proofs.Base.{drop-take, never, same→eq, of-eq, unlike}
 use Rattle.machine.proofs.Lines.{Cuts}
-use Rattle.format.specs.Language.{Ending, crlf, endBytes}
-use Rattle.format.specs.Cutting.{endsIn, cutOf, nextLine, afterNext, linesFrom, linesIn, EndingSoFar, noEnding, cut, turn}
+use Rattle.format.specs.Language.{Ending, crlf, lf, endBytes}
+use Rattle.format.specs.Cutting.{isOpen, endsIn, brokenCut, cutOf, nextLine, afterNext, linesFrom, linesIn, noEnding, cut, turn}
+use Rattle.format.specs.declared.EndingSoFar.{EndingSoFar}
+use Rattle.format.specs.declared.EndingSoFar.the-variants.{Unknown, CrLf, Lf}
 use Rattle.format.specs.declared.Cut.{Cut}
 
 -- ## The ends that there are
 
+abbrev pub endingIs : Ending → EndingSoFar
+endingIs crlf = CrLf
+endingIs lf = Lf
+
 -- those that are still open
 abbrev pub Open : EndingSoFar → Ending → Type 0
-Open e z = Unit {0}
-
-abbrev pub endingIs : Ending → EndingSoFar
-endingIs z = tt
+Open e z = isOpen e (endingIs z) ≡ true
 
 pub ending-open : (z : Ending) → Open (endingIs z) z
-ending-open z = tt
+unfolding isOpen
+ending-open crlf = refl
+ending-open lf = refl
 
 pub ending-only : (z y : Ending) → Open (endingIs z) y → z ≡ y
+unfolding isOpen
 ending-only crlf crlf o = refl
+ending-only lf lf o = refl
+ending-only crlf lf o = never o
+ending-only lf crlf o = never o
 
 pub all-open : (z : Ending) → Open noEnding z
-all-open z = tt
+unfolding isOpen
+all-open crlf = refl
+all-open lf = refl
 
 abbrev pub anEnding : EndingSoFar → Ending
-anEnding e = crlf
+anEnding Unknown = crlf
+anEnding CrLf = crlf
+anEnding Lf = lf
 
 pub is-open : (e : EndingSoFar) → Open e (anEnding e)
-is-open e = tt
+unfolding isOpen
+is-open Unknown = refl
+is-open CrLf = refl
+is-open Lf = refl
+
+-- none is no end
+none-closed : (e : EndingSoFar) → isOpen e Unknown ≡ true → ⊥
+unfolding isOpen
+none-closed e o = never o
 
 -- bytes tell their end
 pub end-one : (z y : Ending) (r q : List ℕ) → endBytes z ++ r ≡ endBytes y ++ q → z ≡ y
 end-one crlf crlf r q e = refl
+end-one lf lf r q e = refl
+end-one crlf lf r q e = let h : _≡_ {A = ℕ} 13 10 = ap (λ l. getD l 0 0) e in absurd (omega arith)
+end-one lf crlf r q e = let h : _≡_ {A = ℕ} 10 13 = ap (λ l. getD l 0 0) e in absurd (omega arith)
 
 -- ## The cut by those ends
 
@@ -51,63 +76,125 @@ pub record Line (z c : List ℕ) : Type 0 where
   pub long : length c ≡ 50 + length z
   pub ended : drop 50 c ≡ z
 
-abbrev wholeOf : ℕ → Cut
-wholeOf n = record { bytes = n; whole = true }
+abbrev pub cutBy : Ending → Cut
+cutBy z = record { bytes = 50 + length (endBytes z); ending = endingIs z }
+
+-- a line with one of these ends, or none
+pub data CutView (b : List ℕ) : Cut → Type 0 where
+  ended : (z : Ending) → Line (endBytes z) (take (cutBy z .bytes) b) → CutView b (cutBy z)
+  broken : CutView b brokenCut
+
+some-end : (z : Ending) → 0 < length (endBytes z)
+some-end crlf = omega arith
+some-end lf = omega arith
+
+ends-so : (z : Ending) (b : List ℕ) → endsIn z (take (cutBy z .bytes) b) ≡ true → Line (endBytes z) (take (cutBy z .bytes) b)
+ends-so z b h =
+    let d : drop 50 (take (cutBy z .bytes) b) ≡ endBytes z = same→eq (drop 50 (take (cutBy z .bytes) b)) (endBytes z) (of-eq _ h) in
+    record { long = omega (arith, ap length d, length-drop 50 (take (cutBy z .bytes) b), some-end z); ended = d }
+
+cut-view : (b : List ℕ) → CutView b (cutOf b)
+unfolding cutOf pick
+cut-view b = by (endsIn lf (take 51 b)) refl (endsIn crlf (take 52 b)) refl
+  where
+    by : (p : Bool) → endsIn lf (take 51 b) ≡ p → (q : Bool) → endsIn crlf (take 52 b) ≡ q → CutView b (pick p (cutBy lf) (pick q (cutBy crlf) brokenCut))
+    by true h q g = ended lf (ends-so lf b h)
+    by false h true g = ended crlf (ends-so crlf b g)
+    by false h false g = broken
 
 pub cut-bytes : (b : List ℕ) → (50 < cutOf b .bytes) × (cutOf b .bytes ≤ 52)
-unfolding cutOf
-cut-bytes b = omega arith
+cut-bytes b = by (cut-view b)
+  where
+    by : {k : Cut} → CutView b k → (50 < k .bytes) × (k .bytes ≤ 52)
+    by (ended crlf l) = omega arith
+    by (ended lf l) = omega arith
+    by broken = omega arith
+
+-- after 50 bytes: what the shorter end looks at is the first byte of what the longer one does
+first-of-two : (b : List ℕ) → drop 50 (take 51 b) ≡ take 1 (drop 50 (take 52 b))
+first-of-two b = drop-take 50 1 b ∙ sym (ap (take 1) (drop-take 50 2 b) ∙ take-take 1 2 (drop 50 b) (omega arith))
+
+end-cut : (z : Ending) (b : List ℕ) → Line (endBytes z) (take (cutBy z .bytes) b) → cutOf b ≡ cutBy z
+unfolding cutOf pick same
+end-cut lf b h = rw (h .ended)
+end-cut crlf b h = rw (first-of-two b, h .ended)
 
 -- the first line's own bytes tell its cut
 same-cut : (a b : List ℕ) → take (cutOf b .bytes) a ≡ nextLine b → cutOf a ≡ cutOf b
 unfolding cutOf
-same-cut a b e = ap (λ c. record { bytes = 52; whole = endsIn crlf c }) e
+same-cut a b e = by (cut-view b) refl e
+  where
+    by : {k : Cut} → CutView b k → cutOf b ≡ k → take (k .bytes) a ≡ take (k .bytes) b → cutOf a ≡ k
+    by (ended z l) i h = end-cut z a (subst (Line (endBytes z)) (sym h) l)
+    by broken i h =
+        let f : take 51 a ≡ take 51 b = sym (take-take 51 52 a (omega arith)) ∙ ap (take 51) h ∙ take-take 51 52 b (omega arith) in
+        ap₂ (λ c d. pick (endsIn lf c) (cutBy lf) (pick (endsIn crlf d) (cutBy crlf) brokenCut)) f h ∙ i
 
-line-cut : (z : Ending) (c : List ℕ) → Line (endBytes z) c → cutOf c ≡ wholeOf (length c)
-unfolding cutOf same
-line-cut crlf c h =
-    ap₂ {C = Cut} (λ n l. record { bytes = n; whole = same l (13 ∷ 10 ∷ []) }) (sym (h .long)) (ap (drop 50) (take-all 52 c (omega (arith, h .long))) ∙ h .ended)
+pub line-cut : (z : Ending) (c : List ℕ) → Line (endBytes z) c → cutOf c ≡ cutBy z
+line-cut z c h = end-cut z c (subst (Line (endBytes z)) (sym (take-all (cutBy z .bytes) c (omega (arith, h .long)))) h)
 
-pub whole-line : (b : List ℕ) → cutOf b .whole ≡ true → (z : Ending) × Line (endBytes z) (nextLine b)
-unfolding cutOf
-whole-line b h =
-    let d : drop 50 (take 52 b) ≡ 13 ∷ 10 ∷ [] = same→eq (drop 50 (take 52 b)) (13 ∷ 10 ∷ []) (of-eq _ h) in
-    (crlf, record { long = omega (arith, ap length d, length-drop 50 (take 52 b)); ended = d })
+-- a line that is whole, in an end that is still open
+pub record Whole (e : EndingSoFar) (b : List ℕ) : Type 0 where
+  pub z : Ending
+  pub still : Open e z
+  pub is : Line (endBytes z) (nextLine b)
+  pub by : cutOf b ≡ cutBy z
+
+pub whole-line : (e : EndingSoFar) (b : List ℕ) → isOpen e (cutOf b .ending) ≡ true → Whole e b
+whole-line e b h = on (cut-view b) refl h
+  where
+    on : {k : Cut} → CutView b k → cutOf b ≡ k → isOpen e (k .ending) ≡ true → Whole e b
+    on (ended z l) i o = record { z = z; still = o; is = subst (λ (k : Cut). Line (endBytes z) (take (k .bytes) b)) (sym i) l; by = i }
+    on broken i o = absurd (none-closed e o)
 
 -- ## What follows: the first line and the rest
 
 pub cut-own : (b : List ℕ) → cutOf (nextLine b) ≡ cutOf b
 cut-own b = same-cut (nextLine b) b (take-take (cutOf b .bytes) (cutOf b .bytes) b (omega arith))
 
-pub whole-long : (b : List ℕ) → cutOf b .whole ≡ true → cutOf b .bytes ≤ length b
-whole-long b h =
-    let w = whole-line b h in
-    let e : cutOf b .bytes ≡ length (nextLine b) = ap (λ (c : Cut). c .bytes) (sym (cut-own b) ∙ line-cut (w .0) (nextLine b) (w .1)) in
-    omega (arith, length-take (cutOf b .bytes) b)
+pub whole-long : (e : EndingSoFar) (b : List ℕ) → isOpen e (cutOf b .ending) ≡ true → cutOf b .bytes ≤ length b
+whole-long e b h =
+    let w = whole-line e b h in
+    omega (arith, ap (λ (k : Cut). k .bytes) (w .by), w .is .long, length-take (cutOf b .bytes) b)
+
+-- its characters and its end
+pub whole-is : (e : EndingSoFar) (b : List ℕ) → isOpen e (cutOf b .ending) ≡ true → (z : Ending) → cutOf b .ending ≡ endingIs z → nextLine b ≡ take 50 b ++ endBytes z
+whole-is e b h z i =
+    let w = whole-line e b h in
+    let y : w .z ≡ z = ending-only (w .z) z (subst (λ x. isOpen x (endingIs z) ≡ true) (sym i ∙ ap (λ (k : Cut). k .ending) (w .by)) (ending-open z)) in
+    sym (take-append-drop 50 (nextLine b))
+    ∙ ap₂ _++_ (take-take 50 (cutOf b .bytes) b (omega (arith, cut-bytes b))) (w .is .ended ∙ ap endBytes y)
 
 -- whatever follows it
-whole-cut : (c r : List ℕ) → cutOf c .whole ≡ true → cutOf (c ++ r) ≡ cutOf c
-whole-cut c r h = same-cut (c ++ r) c (take-append-le (cutOf c .bytes) c r (whole-long c h))
-
-pub whole-next : (c r : List ℕ) → cutOf c .whole ≡ true → nextLine (c ++ r) ≡ nextLine c
-whole-next c r h = ap (λ (k : Cut). take (k .bytes) (c ++ r)) (whole-cut c r h) ∙ take-append-le (cutOf c .bytes) c r (whole-long c h)
+pub whole-next : (e : EndingSoFar) (c r : List ℕ) → isOpen e (cutOf c .ending) ≡ true → nextLine (c ++ r) ≡ nextLine c
+whole-next e c r h =
+    let t = take-append-le (cutOf c .bytes) c r (whole-long e c h) in
+    ap (λ (k : Cut). take (k .bytes) (c ++ r)) (same-cut (c ++ r) c t) ∙ t
 
 module _ (z : Ending) (c : List ℕ) (h : Line (endBytes z) c) (r : List ℕ) where
-  line-first : cutOf (c ++ r) ≡ wholeOf (length c)
-  line-first = whole-cut c r (ap (λ (k : Cut). k .whole) (line-cut z c h)) ∙ line-cut z c h
+  first-is : take (cutBy z .bytes) (c ++ r) ≡ c
+  first-is = take-at c r (cutBy z .bytes) (h .long)
 
-  next-is : nextLine (c ++ r) ≡ c
-  next-is = ap (λ (k : Cut). take (k .bytes) (c ++ r)) line-first ∙ take-at c r (length c) refl
+  line-first : cutOf (c ++ r) ≡ cutBy z
+  line-first = end-cut z (c ++ r) (subst (Line (endBytes z)) (sym first-is) h)
+
+  pub next-is : nextLine (c ++ r) ≡ c
+  next-is = ap (λ (k : Cut). take (k .bytes) (c ++ r)) line-first ∙ first-is
 
   pub after-is : afterNext (c ++ r) ≡ r
-  after-is = ap (λ (k : Cut). drop (k .bytes) (c ++ r)) line-first ∙ drop-at c r (length c) refl
+  after-is = ap (λ (k : Cut). drop (k .bytes) (c ++ r)) line-first ∙ drop-at c r (cutBy z .bytes) (h .long)
 
   -- THE CUT OF A LINE, whatever follows it
   pub cut-by : (e : EndingSoFar) → Open e z → (cut e (c ++ r) ≡ some (c, r)) × (turn e c ≡ endingIs z)
-  cut-by e o = (ap (λ (k : Cut). cond {A = Split} (k .whole) (some (nextLine (c ++ r), afterNext (c ++ r))) none) line-first ∙ ap₂ {C = Split} (λ x y. some (x, y)) next-is after-is, refl)
+  cut-by e o = (
+    ap (λ (k : Cut). cond {A = Split} (isOpen e (k .ending)) (some (nextLine (c ++ r), afterNext (c ++ r))) none) line-first
+        ∙ ap (λ q. cond {A = Split} q (some (nextLine (c ++ r), afterNext (c ++ r))) none) o
+        ∙ ap₂ {C = Split} (λ x y. some (x, y)) next-is after-is,
+    ap (λ (k : Cut). k .ending) (line-cut z c h),
+  )
 
 pub record CutAs (e : EndingSoFar) (b c r : List ℕ) : Type 0 where
-  pub whole : cutOf b .whole ≡ true
+  pub whole : isOpen e (cutOf b .ending) ≡ true
   pub line : nextLine b ≡ c
   pub rest : afterNext b ≡ r
   pub z : Ending
@@ -116,14 +203,15 @@ pub record CutAs (e : EndingSoFar) (b c r : List ℕ) : Type 0 where
   pub after : turn e c ≡ endingIs z
 
 pub cut-as : (e : EndingSoFar) (b c r : List ℕ) → cut e b ≡ some (c, r) → CutAs e b c r
-cut-as e b c r h = by (cutOf b .whole) refl h
+cut-as e b c r h = by (isOpen e (cutOf b .ending)) refl h
   where
-    by : (q : Bool) → cutOf b .whole ≡ q → cond {A = Split} q (some (nextLine b, afterNext b)) none ≡ some (c, r) → CutAs e b c r
+    by : (q : Bool) → isOpen e (cutOf b .ending) ≡ q → cond {A = Split} q (some (nextLine b, afterNext b)) none ≡ some (c, r) → CutAs e b c r
     by true w h =
         let p : _≡_ {A = List ℕ × List ℕ} (nextLine b, afterNext b) (c, r) = cc in
         let l : nextLine b ≡ c = ap (λ (u : List ℕ × List ℕ). u .0) p in
-        let v = whole-line b w in
-        record { whole = w; line = l; rest = ap (λ (u : List ℕ × List ℕ). u .1) p; z = v .0; still = tt; is = subst (Line (endBytes (v .0))) l (v .1); after = refl }
+        let v = whole-line e b w in
+        let i = subst (Line (endBytes (v .z))) l (v .is) in
+        record { whole = w; line = l; rest = ap (λ (u : List ℕ × List ℕ). u .1) p; z = v .z; still = v .still; is = i; after = ap (λ (k : Cut). k .ending) (line-cut (v .z) c i) }
     by false w h = absurd (let z : _≡_ {A = ℕ} 0 1 = cc in omega arith)
 
 -- the three laws
@@ -131,7 +219,7 @@ pub cuts : (e : EndingSoFar) → Cuts (cut e)
 cuts e =
     record {
       splits = λ b c r h. let w = cut-as e b c r h in rw (← (w .line), ← (w .rest)) (sym (take-append-drop (cutOf b .bytes) b));
-      shrinks = λ b c r h. let w = cut-as e b c r h in rw (← (w .rest), length-drop) (omega (arith, whole-long b (w .whole), cut-bytes b));
+      shrinks = λ b c r h. let w = cut-as e b c r h in rw (← (w .rest), length-drop) (omega (arith, whole-long e b (w .whole), cut-bytes b));
       stable = λ b c r h r′. let w = cut-as e b c r h in cut-by (w .z) c (w .is) r′ e (w .still) .0;
     }
 
@@ -203,43 +291,67 @@ lines-line z c r h =
     let n : 0 < length (c ++ r) = rw length-append (omega (arith, h .long)) in
     lines-first (c ++ r) n ∙ ap₂ (λ x ys. x ∷ linesIn ys) (next-is z c h r) (after-is z c h r)
 
-pub lines-whole : (xs r : List ℕ) → cutOf xs .whole ≡ true → linesIn (nextLine xs ++ r) ≡ nextLine xs ∷ linesIn r
-lines-whole xs r h = let w = whole-line xs h in lines-line (w .0) (nextLine xs) r (w .1)
-
 -- bytes that are n lines have n
 pub count-lines : {e : EndingSoFar} {n : ℕ} {b : List ℕ} → Exactly cut turn e n b → n ≡ length (linesIn b)
 unfolding linesFrom
 count-lines no-lines = refl
 count-lines (one-more {e = e} {b = b} c r h x) =
     let w = cut-as e b c r h in
-    let l : 0 < length b = omega (arith, whole-long b (w .whole), cut-bytes b) in
+    let l : 0 < length b = omega (arith, whole-long e b (w .whole), cut-bytes b) in
     omega (arith, ap length (lines-first b l), count-lines x, ap (λ y. length (linesIn y)) (w .rest))
 
 -- ## The code's cut
 
-no-end : (l : List ℕ) → length l < 2 → same l (13 ∷ 10 ∷ []) ≡ false
-unfolding same
-no-end [] h = refl
-no-end (x ∷ []) h = and-false (eqb x 13)
-no-end (x ∷ y ∷ l) h = absurd (omega arith)
+byte-51 : (b : List ℕ) → 51 ≤ length b → drop 50 (take 51 b) ≡ getD b 50 0 ∷ []
+byte-51 b h =
+    let l = length-take-le 51 b h in
+    drop-cons (take 51 b) 50 0 (omega arith)
+    ∙ ap₂ {C = List ℕ} (λ x r. x ∷ r) (getD-take 51 b 50 0 (omega arith)) (drop-of-length-le (take 51 b) {i = 51} (omega arith))
+
+bytes-51-52 : (b : List ℕ) → 52 ≤ length b → drop 50 (take 52 b) ≡ getD b 50 0 ∷ getD b 51 0 ∷ []
+bytes-51-52 b h =
+    let l = length-take-le 52 b h in
+    drop-cons (take 52 b) 50 0 (omega arith)
+    ∙ ap₂ {C = List ℕ} (λ x r. x ∷ r) (getD-take 52 b 50 0 (omega arith))
+    (drop-cons (take 52 b) 51 0 (omega arith)
+    ∙ ap₂ {C = List ℕ} (λ x r. x ∷ r) (getD-take 52 b 51 0 (omega arith)) (drop-of-length-le (take 52 b) {i = 52} (omega arith)))
+
+-- fewer bytes than an end has are none
+too-short : (z : Ending) (b : List ℕ) → length b < 50 + length (endBytes z) → endsIn z (take (cutBy z .bytes) b) ≡ false
+too-short z b h =
+    sym (unlike (drop 50 (take (cutBy z .bytes) b)) (endBytes z) (λ e. omega (arith, length-drop 50 (take (cutBy z .bytes) b), length-take (cutBy z .bytes) b, some-end z)))
 
 module _ (rest : List ℕ) where
-  abbrev cutTo : Bool → Cut
-  cutTo q = record { bytes = 52; whole = q }
+  -- neither end
+  neither : {k : Cut} → endsIn lf (take 51 rest) ≡ false → endsIn crlf (take 52 rest) ≡ false → k ≡ brokenCut → k ≡ cutOf rest
+  unfolding cutOf pick
+  neither p q h = h ∙ rw (p, q)
 
-  pub cut-short : length rest < 52 → cutTo false ≡ cutOf rest
-  unfolding cutOf
-  cut-short h = ap cutTo (sym (no-end (drop 50 (take 52 rest)) (rw (length-drop, length-take) (omega arith))))
+  pub cut-short : {k : Cut} → length rest < 51 → k ≡ brokenCut → k ≡ cutOf rest
+  cut-short l h = neither (too-short lf rest l) (too-short crlf rest (omega arith)) h
 
-  pub cut-long : 52 ≤ length rest → cutTo (eqb (getD rest 50 0) 13 && eqb (getD rest 51 0) 10) ≡ cutOf rest
-  unfolding cutOf same
-  cut-long h =
-      let l = length-take-le 52 rest h in
-      let e : drop 50 (take 52 rest) ≡ getD rest 50 0 ∷ getD rest 51 0 ∷ [] =
-      drop-cons (take 52 rest) 50 0 (omega arith)
-      ∙ ap₂ {C = List ℕ} (λ x r. x ∷ r) (getD-take 52 rest 50 0 (omega arith))
-      (drop-cons (take 52 rest) 51 0 (omega arith)
-      ∙ ap₂ {C = List ℕ} (λ x r. x ∷ r) (getD-take 52 rest 51 0 (omega arith)) (drop-of-length-le (take 52 rest) {i = 52} (omega arith))) in
-      ap cutTo (sym (ap (λ c. same c (13 ∷ 10 ∷ [])) e ∙ ap (λ c. eqb (getD rest 50 0) 13 && c) (and-true (eqb (getD rest 51 0) 10))))
+  module _ (l : 51 ≤ length rest) where
+    pub cut-lf : getD rest 50 0 ≡ 10 → cutBy lf ≡ cutOf rest
+    unfolding cutOf pick same
+    cut-lf e = rw (byte-51 rest l, e)
 
-pub ruleset line-cuts = (cut-short, cut-long)
+    module _ (n : getD rest 50 0 ≡ 10 → ⊥) where
+      no-lf : endsIn lf (take 51 rest) ≡ false
+      unfolding same
+      no-lf = rw (byte-51 rest l, ne-eqb (getD rest 50 0) 10 n)
+
+      pub cut-shorter : {k : Cut} → length rest < 52 → k ≡ brokenCut → k ≡ cutOf rest
+      cut-shorter s h = neither no-lf (too-short crlf rest s) h
+
+      crlf-by : 52 ≤ length rest → endsIn crlf (take 52 rest) ≡ (eqb (getD rest 50 0) 13 && eqb (getD rest 51 0) 10)
+      unfolding same
+      crlf-by m = rw (bytes-51-52 rest m) (ap (λ c. eqb (getD rest 50 0) 13 && c) (and-true (eqb (getD rest 51 0) 10)))
+
+      pub cut-crlf : 52 ≤ length rest → (eqb (getD rest 50 0) 13 && eqb (getD rest 51 0) 10) ≡ true → cutBy crlf ≡ cutOf rest
+      unfolding cutOf pick
+      cut-crlf m q = sym (rw (no-lf, crlf-by m, q))
+
+      pub cut-neither : {k : Cut} → 52 ≤ length rest → (eqb (getD rest 50 0) 13 && eqb (getD rest 51 0) 10) ≡ false → k ≡ brokenCut → k ≡ cutOf rest
+      cut-neither m q h = neither no-lf (crlf-by m ∙ q) h
+
+pub ruleset line-cuts = (cut-short, cut-lf, cut-shorter, cut-crlf, cut-neither)

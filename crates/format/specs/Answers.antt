@@ -5,7 +5,7 @@ use Rattle.format.specs.declared.Answer.{Answer}
 abbrev pub accepted : ℕ
 accepted = 0
 
--- 'fewer than 52 bytes remain, or no 13, 10 at 51 and 52'
+-- 'given where neither ending fits' (02), or not the one that the first line fixed
 abbrev pub brokenLine : ℕ
 brokenLine = 1
 

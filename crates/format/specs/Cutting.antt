@@ -1,21 +1,44 @@
--- The lines of a file: 50 characters and then the end.
-use mathlib.Core.Bool.{Bool, cond}
+-- The lines of a file: 50 characters and then the end, which the first line fixes for all.
+use mathlib.Core.Bool.{Bool, cond, not, _&&_, _||_}
 use mathlib.Core.List.{List, [], _∷_}
 use mathlib.Core.Option.{none, some}
 use Prim.Native.Nat.{ℕ, zero, suc, _-_}
 use lib.ListN.{take, drop}
-use Rattle.machine.specs.Lists.{same}
+use lib.Dec.{eqb}
+use Rattle.machine.specs.Lists.{pick, same}
 use Rattle.machine.specs.Lines.{Split, front, Exactly}
-use Rattle.format.specs.Language.{Ending, crlf, endBytes}
+use Rattle.format.specs.Language.{Ending, crlf, lf, endBytes}
+pub use Rattle.format.specs.declared.EndingSoFar.{EndingSoFar}
+use Rattle.format.specs.declared.EndingSoFar.the-variants.{Unknown, CrLf, Lf}
 use Rattle.format.specs.declared.Cut.{Cut}
+
+-- how lines end (the declared type): unknown before the first line, and of a line with neither end
+abbrev pub endingNumber : EndingSoFar → ℕ
+endingNumber Unknown = 0
+endingNumber CrLf = 1
+endingNumber Lf = 2
+
+abbrev pub isEnding : EndingSoFar → EndingSoFar → Bool
+isEnding a b = eqb (endingNumber a) (endingNumber b)
+
+-- a line that ends so may follow: 'The first line fixes which, and the other ending later is a broken line'
+unfoldable pub isOpen : EndingSoFar → EndingSoFar → Bool
+isOpen e line = not (isEnding line Unknown) && (isEnding e Unknown || isEnding e line)
 
 -- after 50 characters there is this end, and no more
 abbrev pub endsIn : Ending → List ℕ → Bool
 endsIn z c = same (drop 50 c) (endBytes z)
 
--- THE CUT of the first line of some bytes: how many it takes, and whether it is whole
+-- a line that neither end fits: as many bytes as a line can have
+abbrev pub brokenCut : Cut
+brokenCut = record { bytes = 52; ending = Unknown }
+
+-- THE CUT of the first line of some bytes: how many it takes, and how it ends
 unfoldable pub cutOf : List ℕ → Cut
-cutOf b = record { bytes = 52; whole = endsIn crlf (take 52 b) }
+cutOf b =
+    pick (endsIn lf (take 51 b)) (record { bytes = 51; ending = Lf })
+    (pick (endsIn crlf (take 52 b)) (record { bytes = 52; ending = CrLf })
+    brokenCut)
 
 -- the bytes of the first line, or as many as there are, and the bytes after it
 abbrev pub nextLine : List ℕ → List ℕ
@@ -35,19 +58,16 @@ linesIn b = linesFrom 0 b
 
 -- ## Whole lines, for the reader of lines
 
--- the ending that the lines so far have: there is one only, so nothing is to be known
-abbrev pub EndingSoFar : Type 0
-EndingSoFar = Unit {0}
-
 abbrev pub noEnding : EndingSoFar
-noEnding = tt
+noEnding = Unknown
 
+-- a line fixes the ending
 abbrev pub turn : EndingSoFar → List ℕ → EndingSoFar
-turn e c = e
+turn e c = cutOf c .ending
 
--- a first line that is whole, and the bytes after it
+-- a first line that may follow, and the bytes after it
 abbrev pub cut : EndingSoFar → List ℕ → Split
-cut e b = cond (cutOf b .whole) (some (nextLine b, afterNext b)) none
+cut e b = cond (isOpen e (cutOf b .ending)) (some (nextLine b, afterNext b)) none
 
 -- the first n lines of a file; bytes that are n lines and no more
 abbrev pub firstLines : ℕ → List ℕ → List ℕ

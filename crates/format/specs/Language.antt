@@ -242,13 +242,14 @@ pub record Valid (f : File) : Type 0 where
   pub some-batch : 1 ≤ length (f .batches)
   pub batches-ok : BatchesOk (f .group) noneBefore (f .batches)
 
--- ## Its lines: 50 characters and then the end
+-- ## Its lines: 'each line is now 50 characters and then either 13, 10 or 10 alone', the same in all of them
 
 pub data Ending : Type 0 where
-  crlf : Ending
+  crlf lf : Ending
 
 abbrev pub endBytes : Ending → List ℕ
 endBytes crlf = 13 ∷ 10 ∷ []
+endBytes lf = 10 ∷ []
 
 abbrev pub lineOf : List ℕ → Rec → List ℕ
 lineOf z r = code (r .0) ++ (writeFields (layout (r .0)) (r .1) ++ z)

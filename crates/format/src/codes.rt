@@ -34,6 +34,9 @@ pub const FILE_NAME: [u8; 8] = *b"CLIEOP03";
 
 pub const CURRENCY: [u8; 3] = *b"EUR";
 
+// The end of a line that is written.
+pub const LINE_END: [u8; 2] = *b"\r\n";
+
 // The counter that no identification has.
 pub const NO_COUNTER: [u8; 2] = *b"00";
 

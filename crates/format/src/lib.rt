@@ -2,7 +2,7 @@
 // answers and limits.
 ghost use mathlib.Core.Path.{_≡_};
 ghost use Rattle.format.specs.Answers.{refusal, acceptance};
-ghost use Rattle.format.specs.Cutting.{cutOf};
+ghost use Rattle.format.specs.Cutting.{endingNumber, isEnding, isOpen, brokenCut, cutOf};
 ghost use Rattle.format.specs.Rules.{mostDescriptions};
 
 pub mod codes;
@@ -83,10 +83,18 @@ impl Answer {
     }
 }
 
-// The first line of some bytes: how many it takes, and whether it is whole.
+// How lines end: with 13 and 10, or with 10 alone. It is unknown before the first line, which fixes it, and of a line
+// that has neither end.
+pub enum EndingSoFar {
+    Unknown,
+    CrLf,
+    Lf,
+}
+
+// The first line of some bytes: how many it takes, and how it ends.
 pub struct Cut {
     pub bytes: usize,
-    pub whole: bool,
+    pub ending: EndingSoFar,
 }
 
 // The numbers of 01's table.
@@ -136,18 +144,63 @@ pub fn most_descriptions(reference: bool) -> u64
     MAX_DESCRIPTIONS
 }
 
-// The cut of the first line: 50 characters, 13 and 10.
+fn ending_number(e: EndingSoFar) -> u8
+    ensures { λ r. ⌜ r ≡ endingNumber e ⌝ }
+{
+    match e {
+        EndingSoFar::Unknown => 0,
+        EndingSoFar::CrLf => 1,
+        EndingSoFar::Lf => 2,
+    }
+}
+
+fn is_ending(a: EndingSoFar, b: EndingSoFar) -> bool
+    ensures { λ r. ⌜ r ≡ isEnding a b ⌝ }
+{
+    ending_number(a) == ending_number(b)
+}
+
+impl EndingSoFar {
+    // Whether a line that ends so may follow.
+    pub fn is_open(self, line: EndingSoFar) -> bool
+        ensures { λ r. ⌜ r ≡ isOpen self line ⌝ }
+    {
+        !is_ending(line, EndingSoFar::Unknown)
+            & (is_ending(self, EndingSoFar::Unknown) | is_ending(self, line))
+    }
+}
+
+// A line that neither end fits.
+fn broken() -> Cut
+    ensures { λ r. ⌜ r ≡ brokenCut ⌝ }
+{
+    Cut {
+        bytes: 52,
+        ending: EndingSoFar::Unknown,
+    }
+}
+
+// The cut of the first line: 50 characters, and then 13 and 10, or 10 alone.
 pub fn cut_of(rest: &[u8]) -> Cut
     ensures { λ r. ⌜ r ≡ cutOf (now (rest .entry)) ⌝ }
 {
-    if rest.len() < 52 {
+    if rest.len() < 51 {
+        return broken();
+    }
+    if rest[50] == 10 {
         return Cut {
-            bytes: 52,
-            whole: false,
+            bytes: 51,
+            ending: EndingSoFar::Lf,
         };
     }
-    Cut {
-        bytes: 52,
-        whole: (rest[50] == 13) & (rest[51] == 10),
+    if rest.len() < 52 {
+        return broken();
     }
+    if (rest[50] == 13) & (rest[51] == 10) {
+        return Cut {
+            bytes: 52,
+            ending: EndingSoFar::CrLf,
+        };
+    }
+    broken()
 }

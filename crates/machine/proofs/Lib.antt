@@ -1,3 +1,4 @@
 pub mod Base
 pub mod Digits
 pub mod Lines
+pub mod Tests

@@ -113,12 +113,12 @@ module _ {p : List ℕ} {j : Judged} (s : State) (xs : List ℕ) (h : length xs 
   step-refused u q l f k = k ∙ ap (nothingRead (j .next)) (f ∙ ap (λ m. refusal (j .number) m (j .column)) l) ∙ sym (step-is ∙ ap (λ i. readBy (take 50 xs) i j) (sym u ∙ q))
 
   pub step-taken : {a : Answer} {r : Record} {t l : List ℕ} {c : Code} (k : Kind) → c ≡ j .code → c ≡ Of k → l ≡ take 50 xs → a ≡ acceptance (j .next .line) → r ≡ recordFor k (valuesOf k l) → t ≡ textFor k (valuesOf k l)
-      → _≡_ {A = LineRead} (record { answer = a; next = j .next; read = r; text = t }) (stepAt s xs)
+      → _≡_ {A = LineRead} (record { answer = a; next = j .next; bytes = j .bytes; read = r; text = t }) (stepAt s xs)
   step-taken {r = r} {t = t} k u q v n f g =
       let w = ap (valuesOf k) v ∙ valued (s .before) (s .batch) k (take 50 xs) (code-fault by-first k (sym u ∙ q)) in
       let a : r ≡ recordFor k (fieldsOf k (take 50 xs)) = f ∙ ap (recordFor k) w in
       let b : t ≡ textFor k (fieldsOf k (take 50 xs)) = g ∙ ap (textFor k) w in
-      (λ i. record { answer = n i; next = j .next; read = a i; text = b i })
+      (λ i. record { answer = n i; next = j .next; bytes = j .bytes; read = a i; text = b i })
       ∙ sym (step-is ∙ ap (λ i. readBy (take 50 xs) i j) (sym u ∙ q))
 
 -- ## The whole file

@@ -11,7 +11,7 @@ use Rattle.machine.specs.Lists.{pick}
 use Rattle.machine.proofs.Base.{and-second, never}
 use Rattle.format.specs.Records.{amount}
 use Rattle.format.specs.Rules.{maxFixed, maxDescriptions, mostDescriptions}
-use Rattle.format.specs.Cutting.{cutOf}
+use Rattle.format.specs.Cutting.{isOpen, cutOf}
 use Rattle.format.specs.declared.Kind.{Kind}
 use Rattle.format.specs.declared.Kind.the-variants.{FileHeader, BatchHeaderB, BatchHeaderC, FixedDescription, OrderingParty, Transaction, NamePayer, CityPayer, PaymentReference, Description, NameBeneficiary, CityBeneficiary, BatchTrailer, FileTrailer}
 use Rattle.format.specs.declared.Code.{Code}
@@ -31,7 +31,7 @@ use Rattle.record.proofs.ItemFaults.{transaction-read, transaction-refused, tra
 use Rattle.reading.specs.State.{Limited, within}
 use Rattle.reading.specs.Bounds.{Small}
 use Rattle.reading.specs.Order.{isStage, mayFix, mayText, mayDescribe, allowed}
-use Rattle.reading.specs.Step.{nextFor, paid, refused, taken, judgedBy, judgedAs, judgedKind, judgedCode, judgedLine, isDone, judgedFirst}
+use Rattle.reading.specs.Step.{nextFor, paid, refused, taken, judgedBy, judgedAs, judgedKind, judgedCode, judgedLine, withEnding, cutOff, isDone, judgedFirst}
 use Rattle.reading.specs.declared.Stage.the-variants.{Opened}
 use Rattle.reading.specs.declared.State.{State}
 use Rattle.reading.specs.declared.Judged.{Judged}
@@ -109,6 +109,15 @@ pub ruleset codes = (code-known, code-unknown)
 
 -- ## The first line
 
+module _ (c : Cut) (j : Judged) where
+  pub off-refused : (j .number ≡ 0 → ⊥) → j ≡ cutOff c j
+  unfolding cutOff pick
+  off-refused z = rw (ne-eqb _ _ z)
+
+  pub off-taken : {u : State} → j .number ≡ 0 → u ≡ withEnding (c .ending) (j .next) → _≡_ {A = Judged} (record { number = j .number; column = j .column; bytes = c .bytes; code = j .code; next = u }) (cutOff c j)
+  unfolding cutOff pick
+  off-taken z e = rw (e, eq-eqb _ _ z)
+
 module _ (s : State) (xs : List ℕ) where
   pub first-beyond : {x : Judged} → within s ≡ false → x ≡ refused s 0 24 → x ≡ judgedFirst s xs
   unfolding judgedFirst pick
@@ -119,16 +128,14 @@ module _ (s : State) (xs : List ℕ) where
     unfolding judgedFirst pick
     first-done t h = rw (w, ← e, t) h
 
-    module _ (t : d ≡ false) {k : Cut} (i : k ≡ cutOf xs) where
-      pub first-line : {x : Judged} {p : List ℕ} → k .whole ≡ true → p ≡ take 50 xs → x ≡ judgedLine s p → x ≡ judgedFirst s xs
+    module _ (t : d ≡ false) {k : Cut} (i : k ≡ cutOf xs) {o : Bool} (f : o ≡ isOpen (s .before .ending) (k .ending)) where
+      pub first-line : {x j : Judged} {p : List ℕ} → o ≡ true → p ≡ take 50 xs → j ≡ judgedLine s p → x ≡ cutOff k j → x ≡ judgedFirst s xs
       unfolding judgedFirst pick
-      first-line u q h = rw (w, ← e, t, ← i, u) (h ∙ ap (judgedLine s) q)
+      first-line u q g h = rw (w, ← e, t, ← i, ← f, u) (h ∙ ap (cutOff k) (g ∙ ap (judgedLine s) q))
 
-      pub first-broken : {x : Judged} → k .whole ≡ false → x ≡ refused s 0 1 → x ≡ judgedFirst s xs
+      pub first-broken : {x : Judged} → o ≡ false → x ≡ refused s 0 1 → x ≡ judgedFirst s xs
       unfolding judgedFirst pick
-      first-broken u h = rw (w, ← e, t, ← i, u) h
-
-pub ruleset firsts = (first-beyond, first-done, first-line, first-broken)
+      first-broken u h = rw (w, ← e, t, ← i, ← f, u) h
 
 -- ## The limits after a line
 
@@ -159,7 +166,7 @@ item-room p b line z = by (transactionOf (p .group) (b .account) line) refl (eqb
         subst (λ t. HasRoom b (t .amount)) (transaction-read p b line e y) (below-maxima b (r .read .amount) m)
     by r e false h = absurd (eqb-false (r .number) 0 h (ap (λ (f : Fault). f .number) (sym (transaction-refused p b line e (eqb-false (r .number) 0 h))) ∙ z))
 
-same-limited : {s u : State} → u .before ≡ s .before → u .batch ≡ s .batch → u .item .descriptions ≡ s .item .descriptions → Limited s → Limited u
+same-limited : {s u : State} → u .before .sequence ≡ s .before .sequence → u .batch ≡ s .batch → u .item .descriptions ≡ s .item .descriptions → Limited s → Limited u
 same-limited p b d k =
     record {
       items = rw b (k .items);
@@ -198,7 +205,7 @@ limited-next s FileTrailer line a f k = same-limited {s = s} refl refl refl k
 limited-first : {s : State} {xs : List ℕ} {j : Judged} → Limited s → First s xs j → Limited (j .next)
 limited-first k (beyond w) = k
 limited-first k (halted w c n z) = k
-limited-first {s} {xs} k (moved w m c a f) = limited-next s m (take 50 xs) a f k
+limited-first {s} {xs} k (moved w m c a f) = same-limited {s = nextFor s m (fieldsOf m (take 50 xs))} refl refl refl (limited-next s m (take 50 xs) a f k)
 
 pub limited-after : {j : Judged} (s : State) (xs : List ℕ) → j ≡ judgedFirst s xs → Limited s → Limited (j .next)
 limited-after s xs e k = subst (λ (i : Judged). Limited (i .next)) (sym e) (limited-first k (first s xs))

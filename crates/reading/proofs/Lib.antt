@@ -3,6 +3,7 @@ pub mod Limits
 pub mod Running
 pub mod Runs
 pub mod Verdicts
+pub mod Endings
 pub mod Answers
 pub mod Slices
 pub mod Moves

@@ -64,5 +64,3 @@ within-of s e h = rw (← e) h
 
 pub line-fits : {b : Bool} (s : State) → b ≡ within s → b ≡ true → Fits w64 (s .line + 1)
 line-fits s e t = omega (arith, within-line s (sym e ∙ t))
-
-pub ruleset limits = (within-yes, within-no)

@@ -1,9 +1,8 @@
 -- The order of records: what calls answered, put together. Assumes nothing.
-use Prim.Native.Nat.{ℕ}
-use mathlib.Core.Path.{_≡_, ap, ap₂}
-use mathlib.Core.Bool.{Bool, false, not, _&&_, _||_}
+use mathlib.Core.Path.{_≡_}
+use mathlib.Core.Bool.{Bool, not, _||_}
 use borrow.Author.Needs.{needs}
-use lib.Dec.{eqb, ltb}
+use Rattle.machine.proofs.Tests.{tests}
 use Rattle.format.specs.declared.Kind.{Kind}
 use Rattle.format.specs.declared.Group.{Group}
 use Rattle.format.specs.declared.Group.the-variants.{Payments, Debits}
@@ -18,22 +17,7 @@ use Rattle.reading.specs.declared.Name.the-variants.{Unwanted, Due}
 use Rattle.reading.specs.declared.OpenItem.{OpenItem}
 use Rattle.reading.specs.declared.State.{State}
 
-pub both : {x y a b : Bool} → x ≡ a → y ≡ b → (x && y) ≡ (a && b)
-both p q = ap₂ _&&_ p q
-
-pub either : {x y a b : Bool} → x ≡ a → y ≡ b → (x || y) ≡ (a || b)
-either p q = ap₂ _||_ p q
-
-pub negated : {x a : Bool} → x ≡ a → not x ≡ not a
-negated p = ap not p
-
-pub equal : {x y a b : ℕ} → x ≡ a → y ≡ b → eqb x y ≡ eqb a b
-equal p q = ap₂ eqb p q
-
-pub less : {y b : ℕ} (x : ℕ) → y ≡ b → ltb x y ≡ ltb x b
-less x q = ap (ltb x) q
-
-pub ruleset orders = (both, either, negated, equal, less, needs)
+pub ruleset orders = (tests, needs)
 
 -- by cases on the group
 pub texts-payments : {x : Bool} {g : Group} (n : Name) → g ≡ Payments → x ≡ (isName n Unwanted || isName n Due) → x ≡ textsBy g n

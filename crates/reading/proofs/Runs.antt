@@ -5,7 +5,6 @@ use mathlib.Core.List.{List, [], _∷_}
 use mathlib.Core.Bool.{Bool, true, false}
 use native.Mathlib.Omega.{arith}
 use borrow.Author.Tests.{eq-eqb, eqb-true}
-use lib.ListN.{take}
 use lib.Dec.{T, eqb}
 use Rattle.machine.specs.Lists.{pick}
 use Rattle.format.specs.Answers.{refusal, acceptance}
@@ -13,18 +12,17 @@ use Rattle.format.specs.declared.Answer.{Answer}
 use Rattle.format.specs.Cutting.{nextLine, afterNext, linesIn}
 use Rattle.format.specs.declared.Kind.{Kind}
 use Rattle.format.proofs.Cutting.{Lined, no-line, one-line, lined}
-use Rattle.record.specs.Faults.{fieldsOf}
 use Rattle.reading.specs.State.{startState, isLimited, within}
-use Rattle.reading.specs.Step.{nextFor, refused, taken, isDone, judgedFirst, refusalBy, endedAt}
+use Rattle.reading.specs.Step.{refused, taken, isDone, judgedFirst, refusalBy, endedAt}
 use Rattle.reading.specs.Check.{judgedAfter, judgedLines, answerBy, restOf, checkOf}
 use Rattle.reading.specs.declared.State.{State}
 use Rattle.reading.specs.declared.Judged.{Judged}
 use Rattle.reading.proofs.Running.{first-own, goingOn}
-use Rattle.reading.proofs.Verdicts.{Taken, takes}
+use Rattle.reading.proofs.Verdicts.{takenAs, Taken, takes}
 
 -- the state after a line of a kind
 abbrev pub nextBy : State → Kind → List ℕ → State
-nextBy s k xs = nextFor s k (fieldsOf k (take 50 xs))
+nextBy s k xs = takenAs s k xs .next
 
 -- bytes whose lines are each taken, from one state to the last
 pub data Runs : State → List ℕ → List (List ℕ) → State → Type 0 where
@@ -48,7 +46,7 @@ all-taken j (one-line {x} {xs} {lines} r) z =
     let t = takes s (x ∷ xs) (sym (ap (λ (i : Judged). i .number) d) ∙ first-zero (judgedFirst s (nextLine (x ∷ xs))) lines z) in
     let e = d ∙ t .is in
     subst (λ (i : Judged). Runs s (x ∷ xs) (nextLine (x ∷ xs) ∷ lines) (goingOn i lines .next)) (sym e)
-    (line t (all-taken (taken (t .kind) (nextBy s (t .kind) (x ∷ xs))) r (subst (λ (i : Judged). goingOn i lines .number ≡ 0) e z)))
+    (line t (all-taken (takenAs s (t .kind) (x ∷ xs)) r (subst (λ (i : Judged). goingOn i lines .number ≡ 0) e z)))
 
 -- ## The end
 

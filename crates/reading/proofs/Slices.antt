@@ -10,36 +10,37 @@ use lib.Seq.{take-take, take-all}
 use lib.Dec.{eqb}
 use Rattle.machine.specs.Lists.{pick}
 use Rattle.format.specs.declared.Answer.{Answer}
-use Rattle.format.specs.declared.Kind.{Kind}
 use Rattle.format.specs.Cutting.{cutOf, nextLine, afterNext, linesFrom, linesIn}
 use Rattle.format.proofs.Cutting.{cut-bytes, line-inside, lines-first}
-use Rattle.record.specs.Faults.{fieldsOf}
 use Rattle.record.specs.declared.Record.{Record}
 use Rattle.reading.specs.State.{within}
-use Rattle.reading.specs.Step.{nextFor, refused, taken, judgedFirst, readBy, endedAt, stepAt}
+use Rattle.reading.specs.Step.{refused, taken, judgedFirst, readBy, endedAt, stepAt}
 use Rattle.reading.specs.Check.{judgedAfter, judgedLines, answerBy, restOf, recordsAfter}
 use Rattle.reading.specs.declared.State.{State}
 use Rattle.reading.specs.declared.Judged.{Judged}
 use Rattle.reading.specs.declared.LineRead.{LineRead}
 use Rattle.reading.proofs.Judgements.{first-beyond}
 use Rattle.reading.proofs.Running.{first-own, goingOn, lines-on}
-use Rattle.reading.proofs.Verdicts.{First, beyond, halted, moved, first}
+use Rattle.reading.proofs.Verdicts.{takenAs, First, beyond, halted, moved, first}
 use Rattle.reading.proofs.Answers.{step-first}
 
 -- after a line that was taken only the state counts
-after-taken : (k : Kind) (v : State) (ys : List ℕ) → answerBy (judgedAfter (taken k v) (linesIn ys)) ≡ restOf v ys
+after-taken : (j : Judged) (ys : List ℕ) → j .number ≡ 0 → answerBy (judgedAfter j (linesIn ys)) ≡ restOf (j .next) ys
 unfolding restOf judgedLines judgedAfter linesFrom endedAt pick
-after-taken k v ys = by (within v) ys refl
+after-taken j ys z = by (within v) ys refl
   where
-    by : (q : Bool) (ys : List ℕ) → within v ≡ q → answerBy (judgedAfter (taken k v) (linesIn ys)) ≡ answerBy (pick q (judgedAfter (refused v 0 0) (linesIn ys)) (refused v 0 24))
-    by true [] w = refl
-    by false [] w = rw w refl
+    v : State
+    v = j .next
+
+    by : (q : Bool) (ys : List ℕ) → within v ≡ q → answerBy (judgedAfter j (linesIn ys)) ≡ answerBy (pick q (judgedAfter (refused v 0 0) (linesIn ys)) (refused v 0 24))
+    by true [] w = rw (eq-eqb (j .number) 0 z)
+    by false [] w = rw (eq-eqb (j .number) 0 z, w)
     by true (y ∷ ys) w =
         let h : 0 < length (y ∷ ys) = omega arith in
-        ap answerBy (lines-on (taken k v) (y ∷ ys) h ∙ sym (lines-on (refused v 0 0) (y ∷ ys) h))
+        ap answerBy (lines-on j (y ∷ ys) h ∙ sym (lines-on (refused v 0 0) (y ∷ ys) h))
     by false (y ∷ ys) w =
         let h : 0 < length (y ∷ ys) = omega arith in
-        ap answerBy (lines-on (taken k v) (y ∷ ys) h ∙ ap (λ i. goingOn i (linesIn (afterNext (y ∷ ys)))) (sym (first-beyond v (y ∷ ys) w refl)))
+        ap answerBy (lines-on j (y ∷ ys) h ∙ ap (λ i. goingOn i (linesIn (afterNext (y ∷ ys)))) (sym (first-beyond v (y ∷ ys) w refl)))
 
 abbrev pub restWith : LineRead → List ℕ → Answer
 restWith r ys = pick (eqb (r .answer .number) 0) (restOf (r .next) ys) (r .answer)
@@ -48,7 +49,7 @@ by-first : {s : State} {xs : List ℕ} {j : Judged} (ys : List ℕ) → First s 
 unfolding pick
 by-first ys (beyond w) = rw w refl
 by-first ys (halted w c n z) = rw (w, ne-eqb n 0 z) (rw (ne-eqb n 0 z) refl)
-by-first {s} {xs} ys (moved w k c a f) = rw w (after-taken k (nextFor s k (fieldsOf k (take 50 xs))) ys)
+by-first {s} {xs} ys (moved w k c a f) = rw w (after-taken (takenAs s k xs) ys refl)
 
 pub rest-first : (s : State) (xs : List ℕ) → 0 < length xs → restOf s xs ≡ restWith (stepAt s xs) (afterNext xs)
 unfolding restOf judgedLines

@@ -4,14 +4,15 @@ use mathlib.Core.Path.{_≡_, refl, ap, _∙_}
 use mathlib.Core.List.{List}
 use mathlib.Core.Bool.{Bool, true, false}
 use native.Mathlib.Omega.{arith}
-use borrow.Author.Tests.{eqb-true, eqb-false}
+use borrow.Author.Tests.{eq-eqb, ne-eqb, eqb-true, eqb-false}
 use lib.ListN.{take}
 use lib.Dec.{eqb}
 use Rattle.machine.specs.Lists.{pick}
 use Rattle.format.specs.Records.{Fields}
-use Rattle.format.specs.Cutting.{cutOf}
+use Rattle.format.specs.Cutting.{isOpen, cutOf}
 use Rattle.format.specs.declared.Kind.{Kind}
 use Rattle.format.specs.declared.Code.{Code}
+use Rattle.format.specs.declared.Cut.{Cut}
 use Rattle.format.specs.declared.Code.the-variants.{Of, Unknown}
 use Rattle.format.proofs.Every.{every}
 use Rattle.record.specs.Kinds.{codeOf}
@@ -19,7 +20,7 @@ use Rattle.record.specs.Faults.{fieldsOf, faultOf}
 use Rattle.record.specs.declared.Fault.{Fault}
 use Rattle.reading.specs.State.{within}
 use Rattle.reading.specs.Order.{allowed}
-use Rattle.reading.specs.Step.{nextFor, refused, taken, judgedAs, judgedKind, judgedCode, judgedLine, isDone, judgedFirst}
+use Rattle.reading.specs.Step.{nextFor, refused, taken, judgedAs, judgedKind, judgedCode, judgedLine, takenOff, cutOff, isDone, judgedFirst}
 use Rattle.reading.specs.declared.State.{State}
 use Rattle.reading.specs.declared.Judged.{Judged}
 
@@ -53,28 +54,45 @@ verdict s line = by-code s line (codeOf (take 5 line)) refl
 
 -- ## A first line
 
+-- the cut changes no answer
+pub cut-number : (c : Cut) (j : Judged) → cutOff c j .number ≡ j .number
+unfolding cutOff pick
+cut-number c j = by (eqb (j .number) 0)
+  where
+    by : (q : Bool) → pick q (takenOff c j) j .number ≡ j .number
+    by true = refl
+    by false = refl
+
+-- what a line of a kind comes to, where it is taken
+abbrev pub takenAs : State → Kind → List ℕ → Judged
+takenAs s k xs = takenOff (cutOf xs) (taken k (nextFor s k (fieldsOf k (take 50 xs))))
+
 pub data First (s : State) (xs : List ℕ) : Judged → Type 0 where
   beyond : within s ≡ false → First s xs (refused s 0 24)
   halted : within s ≡ true → (c n : ℕ) → (n ≡ 0 → ⊥) → First s xs (refused s c n)
-  moved : within s ≡ true → (k : Kind) → codeOf (take 5 (take 50 xs)) ≡ Of k → allowed s k ≡ true → faultOf (s .before) (s .batch) k (take 50 xs) .number ≡ 0 → First s xs (taken k (nextFor s k (fieldsOf k (take 50 xs))))
+  moved : within s ≡ true → (k : Kind) → codeOf (take 5 (take 50 xs)) ≡ Of k → allowed s k ≡ true → faultOf (s .before) (s .batch) k (take 50 xs) .number ≡ 0 → First s xs (takenAs s k xs)
 
-of-verdict : {s : State} {xs : List ℕ} {j : Judged} → within s ≡ true → Verdict s (take 50 xs) j → First s xs j
-of-verdict w (stopped c n z) = halted w c n z
+of-verdict : {s : State} {xs : List ℕ} {j : Judged} → within s ≡ true → Verdict s (take 50 xs) j → First s xs (cutOff (cutOf xs) j)
+unfolding cutOff pick
+of-verdict w (stopped c n z) = rw (ne-eqb n 0 z) (halted w c n z)
 of-verdict w (went k c a f) = moved w k c a f
 
 pub first : (s : State) (xs : List ℕ) → First s xs (judgedFirst s xs)
 unfolding judgedFirst pick
 first s xs = by (within s) refl
   where
-    whole : within s ≡ true → (q : Bool) → First s xs (pick q (judgedLine s (take 50 xs)) (refused s 0 1))
+    line : Judged
+    line = cutOff (cutOf xs) (judgedLine s (take 50 xs))
+
+    whole : within s ≡ true → (q : Bool) → First s xs (pick q line (refused s 0 1))
     whole w true = of-verdict w (verdict s (take 50 xs))
     whole w false = halted w 0 1 (λ e. omega arith)
 
-    done : within s ≡ true → (q : Bool) → First s xs (pick q (refused s 0 11) (pick (cutOf xs .whole) (judgedLine s (take 50 xs)) (refused s 0 1)))
+    done : within s ≡ true → (q : Bool) → First s xs (pick q (refused s 0 11) (pick (isOpen (s .before .ending) (cutOf xs .ending)) line (refused s 0 1)))
     done w true = halted w 0 11 (λ e. omega arith)
-    done w false = whole w (cutOf xs .whole)
+    done w false = whole w (isOpen (s .before .ending) (cutOf xs .ending))
 
-    by : (q : Bool) → within s ≡ q → First s xs (pick q (pick (isDone s) (refused s 0 11) (pick (cutOf xs .whole) (judgedLine s (take 50 xs)) (refused s 0 1))) (refused s 0 24))
+    by : (q : Bool) → within s ≡ q → First s xs (pick q (pick (isDone s) (refused s 0 11) (pick (isOpen (s .before .ending) (cutOf xs .ending)) line (refused s 0 1))) (refused s 0 24))
     by true w = done w (isDone s)
     by false w = beyond w
 
@@ -83,27 +101,33 @@ first s xs = by (within s) refl
 pub record Taken (s : State) (xs : List ℕ) : Type 0 where
   pub limits : within s ≡ true
   pub unended : isDone s ≡ false
-  pub whole : cutOf xs .whole ≡ true
+  pub whole : isOpen (s .before .ending) (cutOf xs .ending) ≡ true
   pub kind : Kind
   pub coded : codeOf (take 5 (take 50 xs)) ≡ Of kind
   pub placed : allowed s kind ≡ true
   pub faultless : faultOf (s .before) (s .batch) kind (take 50 xs) .number ≡ 0
-  pub is : judgedFirst s xs ≡ taken kind (nextFor s kind (fieldsOf kind (take 50 xs)))
+  pub is : judgedFirst s xs ≡ takenAs s kind xs
 
-parts : (s : State) (xs : List ℕ) → judgedFirst s xs .number ≡ 0 → (isDone s ≡ false) × (cutOf xs .whole ≡ true)
+parts : (s : State) (xs : List ℕ) → judgedFirst s xs .number ≡ 0 → (isDone s ≡ false) × (isOpen (s .before .ending) (cutOf xs .ending) ≡ true)
 unfolding judgedFirst pick
-parts s xs z = on (within s) (isDone s) (cutOf xs .whole) z
+parts s xs z = on (within s) (isDone s) (isOpen (s .before .ending) (cutOf xs .ending)) z
   where
-    on : (a b c : Bool) → pick a (pick b (refused s 0 11) (pick c (judgedLine s (take 50 xs)) (refused s 0 1))) (refused s 0 24) .number ≡ 0 → (b ≡ false) × (c ≡ true)
+    on : (a b c : Bool) → pick a (pick b (refused s 0 11) (pick c (cutOff (cutOf xs) (judgedLine s (take 50 xs))) (refused s 0 1))) (refused s 0 24) .number ≡ 0 → (b ≡ false) × (c ≡ true)
     on true true c z = absurd (omega arith)
     on true false true z = (refl, refl)
     on true false false z = absurd (omega arith)
     on false b c z = absurd (omega arith)
 
-of-first : (s : State) (xs : List ℕ) (j : Judged) → First s xs j → judgedFirst s xs ≡ j → (isDone s ≡ false) × (cutOf xs .whole ≡ true) → j .number ≡ 0 → Taken s xs
+of-first : (s : State) (xs : List ℕ) (j : Judged) → First s xs j → judgedFirst s xs ≡ j → (isDone s ≡ false) × (isOpen (s .before .ending) (cutOf xs .ending) ≡ true) → j .number ≡ 0 → Taken s xs
 of-first s xs j (beyond w) e p z = absurd (omega arith)
 of-first s xs j (halted w c n y) e p z = absurd (y z)
 of-first s xs j (moved w k c a f) e p z = record { limits = w; unended = p .0; whole = p .1; kind = k; coded = c; placed = a; faultless = f; is = e }
 
 pub takes : (s : State) (xs : List ℕ) → judgedFirst s xs .number ≡ 0 → Taken s xs
 takes s xs z = of-first s xs (judgedFirst s xs) (first s xs) refl (parts s xs z) z
+
+-- and back: a line with these facts is taken
+pub taken-first : (s : State) (xs : List ℕ) → within s ≡ true → isDone s ≡ false → isOpen (s .before .ending) (cutOf xs .ending) ≡ true → (k : Kind) → codeOf (take 5 (take 50 xs)) ≡ Of k → allowed s k ≡ true
+    → faultOf (s .before) (s .batch) k (take 50 xs) .number ≡ 0 → judgedFirst s xs ≡ takenAs s k xs
+unfolding judgedFirst judgedLine judgedKind judgedAs cutOff pick
+taken-first s xs a b c k d e f = rw (a, b, c, d, e, eq-eqb _ _ f)

@@ -19,7 +19,7 @@ judgedAfter j (line ∷ lines) =
     let first = judgedFirst (j .next) line in
     pick (eqb (first .number) 0) (judgedAfter first lines) first
 
--- where nothing is refused, the last line's code and the state after it; of no bytes, the state as it was
+-- where nothing is refused, the last line's bytes and code and the state after it; of no bytes, the state as it was
 unfoldable pub judgedLines : State → List ℕ → Judged
 judgedLines s xs = pick (within s) (judgedAfter (refused s 0 accepted) (linesIn xs)) (refused s 0 beyondLimits)
 

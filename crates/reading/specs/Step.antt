@@ -1,4 +1,4 @@
--- What a line is answered, from every state: the answer, the state after it, and the record handed out.
+-- What a line is answered, from every state: the answer, the state after it, the bytes that it took, and the record handed out.
 use Prim.Native.Nat.{ℕ, _+_}
 use mathlib.Core.List.{List, [], _∷_}
 use mathlib.Core.Bool.{Bool, true, false}
@@ -8,9 +8,11 @@ use Rattle.machine.specs.Lists.{pick}
 use Rattle.format.specs.Records.{Fields, group, orderingAccount, sequence, unidentified}
 use Rattle.format.specs.Rules.{groupOf, needsName}
 use Rattle.format.specs.Language.{tenDigits}
-use Rattle.format.specs.Cutting.{cutOf}
+use Rattle.format.specs.Cutting.{isOpen, cutOf}
 use Rattle.format.specs.Answers.{accepted, brokenLine, unknownRecord, misplacedRecord, endsEarly, afterTrailer, beyondLimits, refusal, acceptance}
 use Rattle.format.specs.declared.Answer.{Answer}
+use Rattle.format.specs.declared.Cut.{Cut}
+use Rattle.format.specs.declared.EndingSoFar.{EndingSoFar}
 use Rattle.format.specs.declared.Kind.{Kind}
 use Rattle.format.specs.declared.Kind.the-variants.{FileHeader, BatchHeaderB, BatchHeaderC, FixedDescription, OrderingParty, Transaction, NamePayer, CityPayer, PaymentReference, Description, NameBeneficiary, CityBeneficiary, BatchTrailer, FileTrailer}
 use Rattle.format.specs.declared.Code.{Code}
@@ -118,10 +120,11 @@ nextFor s FileTrailer x = moved s Done
 
 -- a refusal leaves the state
 abbrev pub refused : State → ℕ → ℕ → Judged
-refused s column number = record { number = number; column = column; code = Unknown; next = s }
+refused s column number = record { number = number; column = column; bytes = 0; code = Unknown; next = s }
 
+-- by its characters alone: the cut adds the bytes that it took and the end that it fixed (`cutOff`)
 abbrev pub taken : Kind → State → Judged
-taken k next = record { number = accepted; column = 0; code = Of k; next = next }
+taken k next = record { number = accepted; column = 0; bytes = 0; code = Of k; next = next }
 
 -- a line of a kind that may stand here: its first fault, or the state after it
 abbrev pub judgedBy : State → Kind → List ℕ → Fault → Judged
@@ -142,6 +145,19 @@ judgedCode s line Unknown = refused s 1 unknownRecord
 unfoldable pub judgedLine : State → List ℕ → Judged
 judgedLine s line = judgedCode s line (codeOf (take 5 line))
 
+abbrev pub beforeEnding : EndingSoFar → Before → Before
+beforeEnding e p = record { sequence = p .sequence; group = p .group; known = p .known; ending = e }
+
+abbrev pub withEnding : EndingSoFar → State → State
+withEnding e s = record { line = s .line; before = beforeEnding e (s .before); batch = s .batch; stage = s .stage; item = s .item }
+
+-- what is taken of bytes that are cut so: a line that is accepted takes its bytes, and fixes the end
+abbrev pub takenOff : Cut → Judged → Judged
+takenOff c j = record { number = j .number; column = j .column; bytes = c .bytes; code = j .code; next = withEnding (c .ending) (j .next) }
+
+unfoldable pub cutOff : Cut → Judged → Judged
+cutOff c j = pick (eqb (j .number) accepted) (takenOff c j) j
+
 abbrev pub isDone : State → Bool
 isDone s = isStage (s .stage) Done
 
@@ -150,7 +166,7 @@ unfoldable pub judgedFirst : State → List ℕ → Judged
 judgedFirst s xs =
     pick (within s)
     (pick (isDone s) (refused s 0 afterTrailer)
-    (pick (cutOf xs .whole) (judgedLine s (take 50 xs))
+    (pick (isOpen (s .before .ending) (cutOf xs .ending)) (cutOff (cutOf xs) (judgedLine s (take 50 xs)))
     (refused s 0 brokenLine)))
     (refused s 0 beyondLimits)
 
@@ -164,13 +180,14 @@ abbrev pub refusalBy : Judged → Answer
 refusalBy j = refusal (j .number) (refusalLine (j .number) (j .next .line)) (j .column)
 
 abbrev pub nothingRead : State → Answer → LineRead
-nothingRead s a = record { answer = a; next = s; read = Nothing; text = noText }
+nothingRead s a = record { answer = a; next = s; bytes = 0; read = Nothing; text = noText }
 
 abbrev pub readBy : List ℕ → Code → Judged → LineRead
 readBy line (Of k) j =
     record {
       answer = acceptance (j .next .line);
       next = j .next;
+      bytes = j .bytes;
       read = recordFor k (fieldsOf k line);
       text = textFor k (fieldsOf k line);
     }

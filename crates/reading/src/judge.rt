@@ -3,20 +3,22 @@
 ghost use mathlib.Core.Path.{_≡_};
 ghost use mathlib.Core.Bool.{false};
 ghost use Prim.Native.Nat.{_≤_};
-ghost use Rattle.format.specs.Cutting.{linesIn};
+ghost use Rattle.format.specs.Cutting.{isOpen, linesIn};
 ghost use Rattle.format.specs.declared.Kind.the-variants.{Transaction};
 ghost use Rattle.reading.specs.State.{Limited, maxLine, isLimited, within};
 ghost use Rattle.record.specs.Kinds.{isTransaction};
-ghost use Rattle.reading.specs.Step.{refused, judgedAs, judgedKind, judgedLine, judgedFirst};
+ghost use Rattle.reading.specs.Step.{refused, judgedAs, judgedKind, judgedLine, withEnding, cutOff, judgedFirst};
 ghost use Rattle.reading.specs.Check.{judgedAfter, judgedLines};
 use crate::Judged;
 use crate::State;
-use field::bytes::next_line;
 use field::bytes::part;
 use format::Code;
+use format::Cut;
+use format::EndingSoFar;
 use format::Kind;
 use format::cut_of;
 use record::Batch;
+use record::Before;
 use record::faults::fault_in;
 use record::faults::item::maxima_fault;
 use record::faults::item::transaction_in;
@@ -50,6 +52,7 @@ impl State {
         Judged {
             number,
             column,
+            bytes: 0,
             code: Code::Unknown,
             next: self,
         }
@@ -77,6 +80,7 @@ impl State {
         Judged {
             number: 0,
             column: 0,
+            bytes: 0,
             code: Code::Of(Kind::Transaction),
             next,
         }
@@ -99,6 +103,7 @@ impl State {
         Judged {
             number: 0,
             column: 0,
+            bytes: 0,
             code: Code::Of(k),
             next,
         }
@@ -132,6 +137,16 @@ impl State {
         }
     }
 
+    // Whether a line that is cut so may follow: it has an end, and no other than the first line's.
+    fn goes_on(self, cut: Cut) -> bool
+        ensures { λ r. ⌜ r ≡ isOpen (self .before .ending) (cut .ending) ⌝ }
+    {
+        let before = self.before;
+        let so_far = before.ending;
+        let ending = cut.ending;
+        so_far.is_open(ending)
+    }
+
     // The first line of what remains, of which there is a byte at least.
     fn judge_first(self, rest: &[u8]) -> Judged
         requires { ⌜ Limited self ⌝ }
@@ -144,8 +159,9 @@ impl State {
             return self.refused(format::AFTER_TRAILER, 0);
         }
         let cut = cut_of(rest);
-        if cut.whole {
-            self.judge(part(rest, 0, 50))
+        if self.goes_on(cut) {
+            let judged = self.judge(part(rest, 0, 50));
+            judged.cut_off(cut)
         } else {
             self.refused(format::BROKEN_LINE, 0)
         }
@@ -165,7 +181,52 @@ impl State {
     }
 }
 
+impl State {
+    fn with_ending(self, ending: EndingSoFar) -> State
+        ensures { λ r. ⌜ r ≡ withEnding ending self ⌝ }
+    {
+        let last = self.before;
+        let group = last.group;
+        let before = Before {
+            sequence: last.sequence,
+            group,
+            known: last.known,
+            ending,
+        };
+        let batch = self.batch;
+        let stage = self.stage;
+        let item = self.item;
+        State {
+            line: self.line,
+            before,
+            batch,
+            stage,
+            item,
+        }
+    }
+}
+
 impl Judged {
+    // Of bytes that are cut so: a line that is accepted takes its bytes, and fixes the end.
+    fn cut_off(self, cut: Cut) -> Judged
+        ensures { λ r. ⌜ r ≡ cutOff cut self ⌝ }
+    {
+        if self.number != 0 {
+            return self;
+        }
+        let code = self.code;
+        let state = self.next;
+        let ending = cut.ending;
+        let next = state.with_ending(ending);
+        Judged {
+            number: self.number,
+            column: self.column,
+            bytes: cut.bytes,
+            code,
+            next,
+        }
+    }
+
     // The line after one that was accepted.
     fn then(self, rest: &[u8]) -> Judged
         requires { ⌜ Limited (self .next) ⌝ }
@@ -198,12 +259,11 @@ fn run(start: State, bytes: &[u8]) -> Judged
     let mut last = start.refused(0, 0);
     let mut at = 0;
     while at < bytes.len() {
-        let line = next_line(bytes, at);
-        last = last.then(line);
+        last = last.then(&bytes[at..]);
         if last.number != 0 {
             return last;
         }
-        at += line.len();
+        at += last.bytes;
     }
     last
 }

@@ -50,19 +50,22 @@ pub struct State {
     pub item: OpenItem,
 }
 
-// What the judging of a line comes to: the answer's number and column, the line's code where it is accepted, and the
-// state after it.
+// What the judging of a line comes to: the answer's number and column, how many bytes the line took and its code where
+// it is accepted, and the state after it.
 pub struct Judged {
     pub number: u8,
     pub column: u8,
+    pub bytes: usize,
     pub code: Code,
     pub next: State,
 }
 
-// What a line is answered, the state after it, and the record read with its text.
+// What a line is answered, the state after it, how many bytes it took (0 where nothing was read), and the record read
+// with its text.
 pub struct LineRead {
     pub answer: Answer,
     pub next: State,
+    pub bytes: usize,
     pub read: Record,
     pub text: [u8; 35],
 }

@@ -32,6 +32,7 @@ impl State {
         LineRead {
             answer,
             next: self,
+            bytes: 0,
             read: Record::Nothing,
             text: [32u8; 35],
         }
@@ -51,7 +52,8 @@ impl State {
         Answer::refusal(format::BEYOND_LIMITS, 0, 0)
     }
 
-    // The next line of what remains of a file: its answer, the state after it, and the record read.
+    // The next line of what remains of a file: its answer, the state after it, how many bytes it took, and the record
+    // read.
     pub fn line(self, rest: &[u8]) -> LineRead
         ensures { λ r. ⌜ r ≡ stepAt self (now (rest .entry)) ⌝ }
     {
@@ -66,6 +68,7 @@ impl State {
             Code::Of(k) => LineRead {
                 answer: Answer::accepted(next.line),
                 next,
+                bytes: j.bytes,
                 read: record_in(k, line),
                 text: text_in(k, line),
             },

@@ -2,7 +2,7 @@
 use Prim.Native.Nat.{ℕ}
 use mathlib.Core.Path.{_≡_, refl, sym, ap, ap₂, _∙_}
 use mathlib.Core.List.{List}
-use mathlib.Core.Bool.{Bool, true, false, _||_}
+use mathlib.Core.Bool.{Bool, true, false}
 use native.Mathlib.Omega.{arith}
 use lib.ListN.{take, drop}
 use Rattle.machine.specs.Lists.{pick, same}
@@ -23,9 +23,6 @@ code-found = every (λ k. codeOf (code k) ≡ Of k) refl refl refl refl refl ref
 
 pub begins-with : {p t : List ℕ} {b : Bool} (k : Kind) (line : List ℕ) → p ≡ take 5 (drop 0 line) → t ≡ code k → b ≡ same p t → b ≡ begins k line
 begins-with k line d e h = h ∙ ap₂ same d e
-
-pub either : {a b : Bool} (c d : Bool) → a ≡ c → b ≡ d → (a || b) ≡ (c || d)
-either c d e f = ap₂ _||_ e f
 
 one-of : (k m : Kind) → Of k ≡ Of m → k ≡ m
 one-of k m e = cc

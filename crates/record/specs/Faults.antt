@@ -6,6 +6,7 @@ use mathlib.Core.Bool.{Bool, true, false}
 use mathlib.Core.Option.{Option, none, some}
 use Rattle.machine.specs.Lists.{pick}
 use Rattle.format.specs.Records.{layout, Fields, unidentified, amount}
+use Rattle.format.specs.Cutting.{noEnding}
 use Rattle.format.specs.Tests.{Tests, untested, Check, fileHeaderTests, batchHeaderTests, orderingPartyTests, transactionTests, batchTrailerTests, batchMaxima}
 use Rattle.format.specs.declared.Kind.{Kind}
 use Rattle.format.specs.declared.Kind.the-variants.{FileHeader, BatchHeaderB, BatchHeaderC, FixedDescription, OrderingParty, Transaction, NamePayer, CityPayer, PaymentReference, Description, NameBeneficiary, CityBeneficiary, BatchTrailer, FileTrailer}
@@ -28,11 +29,11 @@ unfoldable pub firstFault : List Row → Fault
 firstFault rows = firstOr faultAt rows noFault
 
 abbrev pub nothingBefore : Before
-nothingBefore = record { sequence = 0; group = Payments; known = false }
+nothingBefore = record { sequence = 0; group = Payments; known = false; ending = noEnding }
 
 -- after a batch header of a group and a number
 abbrev pub afterHeader : Before → Group → ℕ → Before
-afterHeader p g n = record { sequence = n; group = g; known = true }
+afterHeader p g n = record { sequence = n; group = g; known = true; ending = p .ending }
 
 abbrev pub emptyBatch : Batch
 emptyBatch = record { account = 0; items = 0; total = 0; accounts = 0; fixed = 0 }

@@ -1,6 +1,7 @@
 // Records of a line, without the reading state: their kind, what is wrong in them from the left, and their fields.
 ghost use mathlib.Core.Path.{_≡_};
 ghost use Rattle.record.specs.Faults.{nothingBefore, afterHeader, emptyBatch};
+use format::EndingSoFar;
 use format::Group;
 use format::TransactionType;
 use format::TypeRead;
@@ -16,11 +17,13 @@ pub struct Fault {
     pub column: u8,
 }
 
-// What crosses batches: the number of the last batch header, 0 for none, and the group and whether it is known yet.
+// What crosses batches: the number of the last batch header, 0 for none, the group and whether it is known yet, and the
+// end that the first line fixed for all.
 pub struct Before {
     pub sequence: u64,
     pub group: Group,
     pub known: bool,
+    pub ending: EndingSoFar,
 }
 
 impl Before {
@@ -31,6 +34,7 @@ impl Before {
             sequence: 0,
             group: Group::Payments,
             known: false,
+            ending: EndingSoFar::Unknown,
         }
     }
 
@@ -38,10 +42,12 @@ impl Before {
     pub fn after_header(self, group: Group, sequence: u64) -> Before
         ensures { λ r. ⌜ r ≡ afterHeader self group sequence ⌝ }
     {
+        let ending = self.ending;
         Before {
             sequence,
             group,
             known: true,
+            ending,
         }
     }
 }

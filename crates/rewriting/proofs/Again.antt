@@ -1,89 +1,157 @@
 -- A file without its cities is accepted again, and is what the writer writes. Assumes nothing.
-use Prim.Native.Nat.{ℕ}
+use Prim.Native.Nat.{ℕ, _*_, _<_}
 use mathlib.Core.Path.{_≡_, refl, sym, ap, ap₂, _∙_, subst}
-use mathlib.Core.List.{List, [], _∷_, _++_}
-use mathlib.Core.Bool.{Bool, true, false, not, _&&_}
+use mathlib.Core.List.{List, [], _∷_, _++_, append-assoc}
+use mathlib.Core.Bool.{Bool, true, false, not, _&&_, _||_}
 use mathlib.Core.Option.{Option, none, some}
 use native.Mathlib.Omega.{arith}
 use borrow.Author.Tests.{eq-eqb}
-use lib.ListN.{length, take, drop, take-append-drop}
-use lib.Seq.{take-at}
+use lib.ListN.{length, take, drop, length-append}
+use lib.Seq.{take-all, take-at, take-take}
 use Rattle.machine.specs.Lists.{pick, same, pasted}
 use Rattle.machine.proofs.Base.{true≢false}
 use Rattle.format.specs.Answers.{refusal}
 use Rattle.format.specs.declared.Answer.{Answer}
-use Rattle.format.specs.Language.{isSome}
-use Rattle.format.specs.Cutting.{cutOf, nextLine, afterNext, linesFrom, linesIn}
-use Rattle.format.specs.Records.{type, amount, payer, beneficiary}
+use Rattle.format.specs.Fields.{writeFields}
+use Rattle.format.specs.Language.{File, Rec, fileRecs, isSome, Valid, Ending, crlf, endBytes, lineOf, linesOf, Reads}
+use Rattle.format.specs.Cutting.{isOpen, cutOf, nextLine, afterNext, linesFrom, linesIn, noEnding}
+use Rattle.format.specs.Records.{layout, code, Fields, type, amount, payer, beneficiary}
 use Rattle.format.specs.Rules.{typeOf, isType}
 use Rattle.format.specs.declared.Kind.{Kind}
-use Rattle.format.specs.declared.Kind.the-variants.{Transaction}
+use Rattle.format.specs.declared.Kind.the-variants.{Transaction, CityPayer, CityBeneficiary}
 use Rattle.format.specs.declared.Code.the-variants.{Of}
 use Rattle.format.specs.declared.TypeRead.{TypeRead}
 use Rattle.format.specs.declared.TypeRead.the-variants as types
 use Rattle.format.proofs.Every.{every}
-use Rattle.format.proofs.Cutting.{Lined, no-line, one-line, lined, lines-whole}
+use Rattle.format.proofs.Cutting.{Line, cut-bytes, lines-line}
+use Rattle.format.proofs.Reader.{Path, end, go}
+use Rattle.format.proofs.Reader as the
+use Rattle.format.proofs.Link.{line-widths, is-line}
+use Rattle.format.proofs.Complete.{complete}
 use Rattle.field.proofs.Putting.{pasted-front}
 use Rattle.record.specs.Faults.{fieldsOf, faultOf}
-use Rattle.record.specs.Read.{transactionRecord, recordFor}
+use Rattle.record.specs.Read.{transactionRecord, recordFor, textFor}
 use Rattle.record.specs.declared.Before.{Before}
 use Rattle.record.specs.declared.Batch.{Batch}
 use Rattle.record.proofs.ItemFaults.{type-known}
 use Rattle.reading.specs.State.{startState, isLimited, within}
-use Rattle.reading.specs.Step.{refused, taken, isDone, judgedFirst, readBy, stepAt}
+use Rattle.reading.specs.Step.{refused, isDone, stepAt}
 use Rattle.reading.specs.Check.{judgedAfter, judgedLines, checkOf, restOf}
 use Rattle.reading.specs.declared.Name.the-variants.{Unwanted}
 use Rattle.reading.specs.declared.State.{State}
 use Rattle.reading.specs.declared.Judged.{Judged}
 use Rattle.reading.specs.declared.LineRead.{LineRead}
-use Rattle.reading.proofs.Running.{first-own, goingOn}
+use Rattle.reading.proofs.Running.{goingOn}
 use Rattle.reading.proofs.Runs.{nextBy, Runs, no-more, line, Ended, ended-zero, judged, ended-file, runs-file}
-use Rattle.reading.proofs.Slices.{step-own}
-use Rattle.reading.proofs.Verdicts.{Taken}
+use Rattle.reading.proofs.Endings.{endedWith, fifty-first, is-ended}
+use Rattle.reading.proofs.Verdicts.{takenAs, Taken}
+use Rattle.writer.specs.Encoding.{lineEnd}
 use Rattle.writer.specs.Entries.{lineFor}
 use Rattle.writer.specs.Writing.{answered, writtenOf}
 use Rattle.writer.specs.Promises.{entryOf}
 use Rattle.writer.specs.declared.Entry.{Entry}
 use Rattle.writer.specs.declared.Written.{Written}
+use Rattle.writer.proofs.Accepting.{readAs, read-taken}
 use Rattle.writer.proofs.Again.{written-again}
 use Rattle.file.proofs.Meaning.{means}
 use Rattle.record.specs.Kinds.{isCity}
-use Rattle.rewriting.specs.Cities.{keptLine, keptOf, withoutCities}
-use Rattle.rewriting.specs.Promises.{noCity, Rewrites, ended, city, written, Again, Promised}
+use Rattle.rewriting.specs.Cities.{keptLine, keptOf, keptCount, withoutCities}
+use Rattle.rewriting.specs.Promises.{noCity, isCityKind, keptRecs, Rewrites, ended, city, written, Again, Promised}
 use Rattle.rewriting.specs.declared.Rewritten.{Rewritten}
-use Rattle.rewriting.proofs.Behind.{isCityKind, Behind, alike, within-behind, taken-too, behind-too, behind-city, city-kind}
+use Rattle.rewriting.proofs.Copying.{kept-size}
+use Rattle.rewriting.proofs.Behind.{Behind, alike, within-behind, taken-too, behind-too, behind-city, city-kind}
 
--- ## The same file
+-- ## The records of a file, its lines ended by 13, 10
 
--- a file without cities stays
-no-city : {xs : List ℕ} {lines : List (List ℕ)} → Lined xs lines → noCity lines ≡ true → keptOf lines ≡ xs
-unfolding noCity keptOf keptLine pick
-no-city no-line h = refl
-no-city (one-line {x} {xs} {lines} r) h = on (isCity (nextLine (x ∷ xs))) h (λ n. no-city r n)
-  where
-    on : (q : Bool) → (not q && noCity lines) ≡ true → (noCity lines ≡ true → keptOf lines ≡ afterNext (x ∷ xs)) → pick q [] (nextLine (x ∷ xs)) ++ keptOf lines ≡ x ∷ xs
-    on true n f = absurd (true≢false (sym n))
-    on false n f = ap (λ ys. nextLine (x ∷ xs) ++ ys) (f n) ∙ take-append-drop (cutOf (x ∷ xs) .bytes) (x ∷ xs)
+module _ (k : Kind) (x : Fields k) (z : List ℕ) (h : Line z (lineOf z (k, x))) where
+  characters : List ℕ
+  characters = code k ++ writeFields (layout k) x
 
-pub same-file : (file : List ℕ) → noCity (linesIn file) ≡ true → withoutCities file ≡ file
-unfolding withoutCities
-same-file file h = no-city (lined 0 file) h
+  in-two : lineOf z (k, x) ≡ characters ++ z
+  unfolding characters
+  in-two = sym (append-assoc (code k) (writeFields (layout k) x) z)
+
+  fifty : length characters ≡ 50
+  fifty = omega (arith, h .long, ap length in-two, length-append characters z)
+
+  rec-ended : take 50 (lineOf z (k, x)) ++ lineEnd ≡ lineOf lineEnd (k, x)
+  unfolding characters
+  rec-ended = ap (λ l. l ++ lineEnd) (ap (take 50) in-two ∙ take-at characters z 50 fifty) ∙ append-assoc (code k) (writeFields (layout k) x) lineEnd
+
+  rec-city : isCity (lineOf z (k, x)) ≡ isCityKind k
+  unfolding isCity
+  rec-city =
+      let f = line-widths k .0 in
+      ap (λ c. same c (code CityPayer) || same c (code CityBeneficiary)) (take-at (code k) (writeFields (layout k) x ++ z) 5 f ∙ sym (take-all 5 (code k) (omega (arith, f))))
+
+  rec-kept : (rs : List Rec) → keptLine (lineOf z (k, x)) ++ linesOf lineEnd (keptRecs rs) ≡ linesOf lineEnd (keptRecs ((k, x) ∷ rs))
+  unfolding keptLine keptRecs linesOf pick
+  rec-kept rs = rw (rec-city, rec-ended) (by (isCityKind k))
+    where
+      by : (q : Bool) → pick q [] (lineOf lineEnd (k, x)) ++ linesOf lineEnd (keptRecs rs) ≡ linesOf lineEnd (pick q (keptRecs rs) ((k, x) ∷ keptRecs rs))
+      by true = refl
+      by false = refl
+
+  rec-none : (lines : List (List ℕ)) (rs : List Rec) → noCity (lineOf z (k, x) ∷ lines) ≡ true → (noCity lines ≡ true → keptRecs rs ≡ rs) → keptRecs ((k, x) ∷ rs) ≡ (k, x) ∷ rs
+  unfolding noCity keptRecs pick
+  rec-none lines rs n f = by (isCityKind k) (ap (λ q. not q && noCity lines) (sym rec-city) ∙ n)
+    where
+      by : (q : Bool) → (not q && noCity lines) ≡ true → pick q (keptRecs rs) ((k, x) ∷ keptRecs rs) ≡ (k, x) ∷ rs
+      by true n = absurd (true≢false (sym n))
+      by false n = ap (λ r. (k, x) ∷ r) (f n)
+
+path-kept : {s : the.State} {rs : List Rec} → Path s rs → (z : Ending) → keptOf (linesIn (linesOf (endBytes z) rs)) ≡ linesOf lineEnd (keptRecs rs)
+unfolding keptOf keptRecs linesOf linesFrom
+path-kept end z = refl
+path-kept (go {s = s} {rs} k x pl o q) z =
+    let h = is-line pl s x o (endBytes z) in
+    ap keptOf (lines-line z (lineOf (endBytes z) (k, x)) (linesOf (endBytes z) rs) h)
+    ∙ ap (λ r. keptLine (lineOf (endBytes z) (k, x)) ++ r) (path-kept q z) ∙ rec-kept k x (endBytes z) h rs
+
+path-none : {s : the.State} {rs : List Rec} → Path s rs → (z : Ending) → noCity (linesIn (linesOf (endBytes z) rs)) ≡ true → keptRecs rs ≡ rs
+unfolding keptRecs linesOf
+path-none end z n = refl
+path-none (go {s = s} {rs} k x pl o q) z n =
+    let h = is-line pl s x o (endBytes z) in
+    rec-none k x (endBytes z) h (linesIn (linesOf (endBytes z) rs)) rs (sym (ap noCity (lines-line z (lineOf (endBytes z) (k, x)) (linesOf (endBytes z) rs) h)) ∙ n) (λ m. path-none q z m)
+
+pub only-ends : (file : List ℕ) (f : File) → Reads file f → withoutCities file ≡ linesOf (endBytes crlf) (keptRecs (fileRecs f))
+unfolding Reads withoutCities
+only-ends file f r = ap (λ b. keptOf (linesIn b)) (r .1 .1) ∙ path-kept (complete f (r .0)) (r .1 .0)
+
+pub same-file : (file : List ℕ) (f : File) → Valid f → file ≡ linesOf (endBytes crlf) (fileRecs f) → noCity (linesIn file) ≡ true → withoutCities file ≡ file
+unfolding Reads
+same-file file f v e n =
+    only-ends file f (v, (crlf, e))
+    ∙ ap (linesOf (endBytes crlf)) (path-none (complete f v) crlf (sym (ap (λ b. noCity (linesIn b)) e) ∙ n))
+    ∙ sym e
 
 -- ## Accepted again
+
+next-fifty : (xs : List ℕ) → take 50 (nextLine xs) ≡ take 50 xs
+next-fifty xs = take-take 50 (cutOf xs .bytes) xs (omega (arith, cut-bytes xs))
+
+-- a line and the same characters with 13, 10 have one code
+ended-city : {s : State} (xs : List ℕ) (t : Taken s xs) → isCity (endedWith crlf xs) ≡ isCity (nextLine xs)
+unfolding isCity
+ended-city xs t =
+    ap (λ c. same c (code CityPayer) || same c (code CityBeneficiary))
+    (sym (take-take 5 50 (endedWith crlf xs) (omega arith)) ∙ ap (take 5) (fifty-first t crlf) ∙ take-take 5 50 xs (omega arith) ∙ sym (take-take 5 (cutOf xs .bytes) xs (omega (arith, cut-bytes xs))))
 
 record Follows (s : State) (i : Judged) : Type 0 where
   pub number : i .number ≡ 0
   pub next : Behind s (i .next)
 
 module _ {s : State} {xs : List ℕ} (t : Taken s xs) (i : Judged) (p : Follows s i) (rest : List ℕ) (u : State) (f : (v : Judged) → Follows (nextBy s (t .kind) xs) v → Follows u (judgedAfter v (linesIn rest))) where
-  line-on : (q : Bool) → isCity (nextLine xs) ≡ q → Follows u (judgedAfter i (linesIn (pick q [] (nextLine xs) ++ rest)))
+  line-on : (q : Bool) → isCity (nextLine xs) ≡ q → Follows u (judgedAfter i (linesIn (pick q [] (take 50 (nextLine xs) ++ lineEnd) ++ rest)))
   unfolding judgedAfter pick
   line-on true e = f i (record { number = p .number; next = behind-city (p .next) t (sym (city-kind xs t) ∙ e) })
   line-on false e =
       let c = sym (city-kind xs t) ∙ e in
-      subst (λ lines. Follows u (judgedAfter i lines)) (sym (lines-whole xs rest (t .whole)))
-      (subst (λ (v : Judged). Follows u (goingOn v (linesIn rest))) (sym (first-own (i .next) xs ∙ taken-too (p .next) t c))
-      (f (taken (t .kind) (nextBy (i .next) (t .kind) xs)) (record { number = refl; next = behind-too (p .next) t c })))
+      let l = endedWith crlf xs in
+      subst (λ lines. Follows u (judgedAfter i lines)) (sym (ap (λ m. linesIn ((m ++ lineEnd) ++ rest)) (next-fifty xs) ∙ lines-line crlf l rest (is-ended t crlf)))
+      (subst (λ (v : Judged). Follows u (goingOn v (linesIn rest))) (sym (taken-too (p .next) t c))
+      (f (takenAs (i .next) (t .kind) l) (record { number = refl; next = behind-too (p .next) t c })))
 
 follows : {s u : State} {xs : List ℕ} {lines : List (List ℕ)} → Runs s xs lines u → (i : Judged) → Follows s i → Follows u (judgedAfter i (linesIn (keptOf lines)))
 unfolding judgedAfter linesFrom keptOf keptLine
@@ -93,14 +161,15 @@ follows {u = u} (line {x = x} {xs} {lines} t r) i p = line-on t i p (keptOf line
 -- ## The end
 
 start-behind : Behind startState startState
-start-behind = record { line = 0; name = Unwanted; is = refl; small = omega arith; like = alike refl }
+unfolding isOpen
+start-behind = record { line = 0; name = Unwanted; ending = noEnding; is = refl; small = omega arith; like = alike refl; still = refl }
 
 ended-behind : (j i : Judged) → Ended j → Follows (j .next) i → Ended i
 ended-behind j i e p =
     let b = p .next in
     record {
       number = p .number;
-      limits = subst (λ u. within u ≡ true) (sym (b .is)) (within-behind (j .next) (b .line) (b .name) (b .small) (e .limits));
+      limits = subst (λ u. within u ≡ true) (sym (b .is)) (within-behind (j .next) (b .line) (b .name) (b .ending) (b .small) (e .limits));
       done = subst (λ u. isDone u ≡ true) (sym (b .is)) (e .done);
     }
 
@@ -112,10 +181,11 @@ accepted-again file z =
 
 -- ## No city is left
 
-none-line : {s : State} {xs : List ℕ} (rest : List ℕ) → Taken s xs → (q : Bool) → isCity (nextLine xs) ≡ q → noCity (linesIn rest) ≡ true → noCity (linesIn (pick q [] (nextLine xs) ++ rest)) ≡ true
+none-line : {s : State} {xs : List ℕ} (rest : List ℕ) → Taken s xs → (q : Bool) → isCity (nextLine xs) ≡ q → noCity (linesIn rest) ≡ true → noCity (linesIn (pick q [] (take 50 (nextLine xs) ++ lineEnd) ++ rest)) ≡ true
 unfolding noCity pick
 none-line rest t true e r = r
-none-line {xs = xs} rest t false e r = ap noCity (lines-whole xs rest (t .whole)) ∙ ap₂ (λ p q. not p && q) e r
+none-line {xs = xs} rest t false e r =
+    ap (λ m. noCity (linesIn ((m ++ lineEnd) ++ rest))) (next-fifty xs) ∙ ap noCity (lines-line crlf (endedWith crlf xs) rest (is-ended t crlf)) ∙ ap₂ (λ p q. not p && q) (ended-city xs t ∙ e) r
 
 none-left : {s u : State} {xs : List ℕ} {lines : List (List ℕ)} → Runs s xs lines u → noCity (linesIn (keptOf lines)) ≡ true
 unfolding keptOf keptLine linesFrom noCity
@@ -146,52 +216,58 @@ has-entry p b k l f =
     every (λ k. faultOf p b k l .number ≡ 0 → isSome (entryOf (recordFor k (fieldsOf k l))) ≡ not (isCityKind k)) (λ f. refl) (λ f. refl) (λ f. refl) (λ f. refl) (λ f. refl)
     (λ f. let x = fieldsOf Transaction l in item-entry (typeOf (type x)) (amount x) (payer x) (beneficiary x) (type-known p b l f)) (λ f. refl) (λ f. refl) (λ f. refl) (λ f. refl) (λ f. refl) (λ f. refl) (λ f. refl) (λ f. refl) k f
 
-abbrev readAs : State → (k : Kind) → List ℕ → LineRead
-readAs s k xs = readBy (take 50 xs) (Of k) (taken k (nextBy s k xs))
-
-step-as : (s : State) (x : ℕ) (xs : List ℕ) (k : Kind) → judgedFirst s (x ∷ xs) ≡ taken k (nextBy s k (x ∷ xs)) → stepAt s (x ∷ xs) ≡ readAs s k (x ∷ xs)
-unfolding stepAt
-step-as s x xs k e = ap (λ (j : Judged). readBy (take 50 (x ∷ xs)) (j .code) j) e
+abbrev readOf : State → (k : Kind) → List ℕ → LineRead
+readOf s k xs = readAs s (cutOf xs) k (fieldsOf k (take 50 xs))
 
 wrote : (w : State) (e : Entry) (t : List ℕ) (r : LineRead) → stepAt w (lineFor w e t) ≡ r → r .answer .number ≡ 0 → writtenOf w e t 52 ≡ answered (r .answer) (r .next)
 unfolding writtenOf pick
 wrote w e t r h z = rw (h, eq-eqb (r .answer .number) 0 z)
 
 module _ {s : State} {x : ℕ} {xs : List ℕ} (tk : Taken s (x ∷ xs)) (w : State) (b : Behind s w) (rest : List ℕ) (f : (u : State) → Behind (nextBy s (tk .kind) (x ∷ xs)) u → Rewrites (nextBy s (tk .kind) (x ∷ xs)) u (afterNext (x ∷ xs)) rest) where
-  read-s : stepAt s (x ∷ xs) ≡ readAs s (tk .kind) (x ∷ xs)
-  read-s = step-as s x xs (tk .kind) (tk .is)
+  read-s : stepAt s (x ∷ xs) ≡ readOf s (tk .kind) (x ∷ xs)
+  read-s = read-taken s (x ∷ xs) (tk .kind) (omega arith) (tk .is)
 
   after : (u : State) → Behind (nextBy s (tk .kind) (x ∷ xs)) u → Rewrites (stepAt s (x ∷ xs) .next) u (afterNext (x ∷ xs)) rest
   after u c = subst (λ (r : LineRead). Rewrites (r .next) u (afterNext (x ∷ xs)) rest) (sym read-s) (f u c)
 
   module _ (c : isCityKind (tk .kind) ≡ false) where
-    read-w : stepAt w (x ∷ xs) ≡ readAs w (tk .kind) (x ∷ xs)
-    read-w = step-as w x xs (tk .kind) (taken-too b tk c)
+    abbrev again : List ℕ
+    again = endedWith crlf (x ∷ xs)
+
+    not-empty : 0 < length again
+    not-empty = omega (arith, is-ended tk crlf .long)
+
+    read-w : stepAt w again ≡ readOf w (tk .kind) again
+    read-w = read-taken w again (tk .kind) not-empty (taken-too b tk c)
+
+    same-fields : fieldsOf (tk .kind) (take 50 again) ≡ fieldsOf (tk .kind) (take 50 (x ∷ xs))
+    same-fields = ap (fieldsOf (tk .kind)) (fifty-first tk crlf)
 
     entry : (e : Entry) × (entryOf (recordFor (tk .kind) (fieldsOf (tk .kind) (take 50 (x ∷ xs)))) ≡ some e)
     entry = the-entry (entryOf (recordFor (tk .kind) (fieldsOf (tk .kind) (take 50 (x ∷ xs))))) (has-entry (s .before) (s .batch) (tk .kind) (take 50 (x ∷ xs)) (tk .faultless) ∙ ap not c)
 
-    line-is : nextLine (x ∷ xs) ≡ lineFor w (entry .0) (stepAt s (x ∷ xs) .text)
+    line-is : again ≡ lineFor w (entry .0) (stepAt s (x ∷ xs) .text)
     line-is =
-        written-again w (x ∷ xs) (omega arith) (ap (λ (r : LineRead). r .answer .number) read-w) (entry .0) (ap (λ (r : LineRead). entryOf (r .read)) read-w ∙ entry .1)
-        ∙ ap (lineFor w (entry .0)) (ap (λ (r : LineRead). r .text) read-w ∙ sym (ap (λ (r : LineRead). r .text) read-s))
+        ap (λ l. l ++ lineEnd) (sym (fifty-first tk crlf))
+        ∙ written-again w again not-empty (ap (λ (r : LineRead). r .answer .number) read-w) (entry .0) (ap (λ (r : LineRead). entryOf (r .read)) read-w ∙ ap (λ y. entryOf (recordFor (tk .kind) y)) same-fields ∙ entry .1)
+        ∙ ap (lineFor w (entry .0)) (ap (λ (r : LineRead). r .text) read-w ∙ ap (textFor (tk .kind)) same-fields ∙ sym (ap (λ (r : LineRead). r .text) read-s))
 
-    writer-is : writtenOf w (entry .0) (stepAt s (x ∷ xs) .text) 52 ≡ answered (readAs w (tk .kind) (x ∷ xs) .answer) (readAs w (tk .kind) (x ∷ xs) .next)
-    writer-is = wrote w (entry .0) (stepAt s (x ∷ xs) .text) (readAs w (tk .kind) (x ∷ xs)) (ap (stepAt w) (sym line-is) ∙ step-own w (x ∷ xs) ∙ read-w) refl
+    writer-is : writtenOf w (entry .0) (stepAt s (x ∷ xs) .text) 52 ≡ answered (readOf w (tk .kind) again .answer) (readOf w (tk .kind) again .next)
+    writer-is = wrote w (entry .0) (stepAt s (x ∷ xs) .text) (readOf w (tk .kind) again) (ap (stepAt w) (sym line-is) ∙ read-w) refl
 
-    kept-written : Rewrites s w (x ∷ xs) (nextLine (x ∷ xs) ++ rest)
+    kept-written : Rewrites s w (x ∷ xs) (again ++ rest)
     kept-written =
         subst (λ l. Rewrites s w (x ∷ xs) (l ++ rest)) (sym line-is)
         (written (entry .0) (ap (λ (r : LineRead). r .answer .number) read-s) (ap (λ (r : LineRead). entryOf (r .read)) read-s ∙ entry .1) (ap (λ (v : Written). v .answer .number) writer-is)
-        (subst (λ (v : Written). Rewrites (stepAt s (x ∷ xs) .next) (v .next) (afterNext (x ∷ xs)) rest) (sym writer-is) (after (nextBy w (tk .kind) (x ∷ xs)) (behind-too b tk c))))
+        (subst (λ (v : Written). Rewrites (stepAt s (x ∷ xs) .next) (v .next) (afterNext (x ∷ xs)) rest) (sym writer-is) (after (nextBy w (tk .kind) again) (behind-too b tk c))))
 
-  line-written : (q : Bool) → isCity (nextLine (x ∷ xs)) ≡ q → Rewrites s w (x ∷ xs) (pick q [] (nextLine (x ∷ xs)) ++ rest)
+  line-written : (q : Bool) → isCity (nextLine (x ∷ xs)) ≡ q → Rewrites s w (x ∷ xs) (pick q [] (take 50 (nextLine (x ∷ xs)) ++ lineEnd) ++ rest)
   unfolding pick
   line-written true e =
       let c = sym (city-kind (x ∷ xs) tk) ∙ e in
       let o = no-entry (entryOf (recordFor (tk .kind) (fieldsOf (tk .kind) (take 50 (x ∷ xs))))) (has-entry (s .before) (s .batch) (tk .kind) (take 50 (x ∷ xs)) (tk .faultless) ∙ ap not c) in
       city (ap (λ (r : LineRead). r .answer .number) read-s) (ap (λ (r : LineRead). entryOf (r .read)) read-s ∙ o) (after w (behind-city b tk c))
-  line-written false e = kept-written (sym (city-kind (x ∷ xs) tk) ∙ e)
+  line-written false e = subst (λ m. Rewrites s w (x ∷ xs) ((m ++ lineEnd) ++ rest)) (sym (next-fifty (x ∷ xs))) (kept-written (sym (city-kind (x ∷ xs) tk) ∙ e))
 
 rewrites : {s u : State} {xs : List ℕ} {lines : List (List ℕ)} → Runs s xs lines u → (w : State) → Behind s w → Rewrites s w xs (keptOf lines)
 unfolding keptOf keptLine
@@ -208,6 +284,7 @@ all-again : (file : List ℕ) → checkOf file .number ≡ 0 → Again file (wit
 all-again file z =
     record {
       same-file = same-file file;
+      only-ends = only-ends file;
       accepted-again = accepted-again file z;
       in-language = means (withoutCities file) .accepted-exactly .0 (accepted-again file z);
       without-cities = without-cities file z;
@@ -219,9 +296,10 @@ module _ {a : Answer} (file o : List ℕ) (w : Rewritten) (e : a ≡ checkOf fil
   unfolding Promised
   promise-none z h = λ q. absurd (z (ap (λ (y : Answer). y .number) (sym h) ∙ q))
 
-  pub promise-met : (out : List ℕ) → a .number ≡ 0 → w .written ≡ length (withoutCities file) → o ≡ pasted out 0 (withoutCities file) → Promised file w o
+  pub promise-met : {m : ℕ} (out : List ℕ) → a .number ≡ 0 → m ≡ keptCount (linesIn file) → w .written ≡ m * 52 → o ≡ pasted out 0 (withoutCities file) → Promised file w o
   unfolding Promised
-  promise-met out z n h = λ q.
+  promise-met out z k i h = λ q.
+      let n : w .written ≡ length (withoutCities file) = i ∙ kept-size file (ap (λ (y : Answer). y .number) (sym e) ∙ z) k in
       let b : take (w .written) o ≡ withoutCities file = ap₂ take n (h ∙ pasted-front out (withoutCities file)) ∙ take-at (withoutCities file) (drop (length (withoutCities file)) out) (length (withoutCities file)) refl in
       subst (Again file) (sym b) (all-again file (ap (λ (y : Answer). y .number) (sym e) ∙ z))
 

@@ -1,81 +1,100 @@
 -- Lines that are no city's: counted and copied. Assumes nothing.
-use Prim.Native.Nat.{ℕ, _+_, _≤_, _<_}
+use Prim.Native.Nat.{ℕ, _+_, _*_, _/_, _≤_, _<_}
 use mathlib.Core.Path.{_≡_, refl, sym, ap, ap₂, _∙_}
-use mathlib.Core.List.{List, [], _++_, append-assoc, append-nil}
+use mathlib.Core.List.{List, [], _∷_, _++_, append-assoc, append-nil}
 use mathlib.Core.Bool.{Bool, true, false}
 use native.Mathlib.Omega.{arith}
 use borrow.Author.Needs.{needs}
 use borrow.Author.Tests.{eq-eqb, ne-eqb, le-leb, lt-leb}
-use lib.ListN.{length, take, drop, length-append}
+use lib.ListN.{length, take, drop, length-take, length-append, take-append-drop}
+use lib.Seq.{length-take-le}
 use Rattle.machine.specs.Lists.{pick, pasted, putIn}
 use Rattle.format.specs.Answers.{refusal}
-use Rattle.format.specs.Cutting.{nextLine, linesIn}
+use Rattle.format.specs.Cutting.{cutOf, nextLine, linesIn}
 use Rattle.format.specs.declared.Answer.{Answer}
-use Rattle.format.proofs.Cutting.{line-inside, lines-at, lines-none}
-use Rattle.field.proofs.Putting.{put-fits, put-fitting, put-long, length-pasted, pasted-both}
+use Rattle.format.proofs.Cutting.{cut-bytes, whole-long, line-inside, lines-at, lines-none}
+use Rattle.field.proofs.Putting.{put-both, put-fitting, put-long, length-pasted, pasted-both}
 use Rattle.record.specs.Kinds.{isCity}
 use Rattle.reading.specs.Check.{checkOf}
-use Rattle.rewriting.specs.Cities.{keptLine, keptOf, withoutCities}
+use Rattle.reading.specs.declared.State.{State}
+use Rattle.reading.proofs.Runs.{Runs, no-more, line, runs-file}
+use Rattle.writer.specs.Encoding.{lineEnd}
+use Rattle.rewriting.specs.Cities.{keptLine, keptOf, keptOne, keptCount, withoutCities}
 use Rattle.rewriting.specs.Rewriting.{answered, rewrittenBy, roomBy, rewrittenOf, roomAfter}
 use Rattle.rewriting.specs.declared.Rewritten.{Rewritten}
 
--- ## Lines
+-- ## A line
 
-pub kept-yes : {l : List ℕ} {q : Bool} (line : List ℕ) → q ≡ isCity line → q ≡ true → l ≡ take 0 (drop 0 line) → l ≡ keptLine line
-unfolding keptLine pick
-kept-yes line e h p = rw (← e, h) p
-
-pub kept-no : {q : Bool} (line : List ℕ) → q ≡ isCity line → q ≡ false → line ≡ keptLine line
-unfolding keptLine pick
-kept-no line e h = rw (← e, h)
-
-pub ruleset cities = (kept-yes, kept-no, needs)
-
-line-short : (line : List ℕ) → length (keptLine line) ≤ length line
-unfolding keptLine pick
-line-short line = by (isCity line)
+one-at-most : (line : List ℕ) → keptOne line ≤ 1
+unfolding keptOne pick
+one-at-most l = by (isCity l)
   where
-    by : (q : Bool) → length (pick q [] line) ≤ length line
+    by : (q : Bool) → pick q 0 1 ≤ 1
     by true = omega arith
     by false = omega arith
+
+pasted-nothing : (room : List ℕ) (at : ℕ) → pasted room at [] ≡ room
+unfolding pasted
+pasted-nothing room at =
+    let e : at + 0 ≡ at = omega arith in
+    ap₂ _++_ (append-nil (take at room)) (ap (λ n. drop n room) e) ∙ take-append-drop at room
+
+module _ {q : Bool} (line : List ℕ) (e : q ≡ isCity line) where
+  no-line : q ≡ true → keptLine line ≡ []
+  unfolding keptLine pick
+  no-line h = rw (← e, h)
+
+  pub nothing-after : (at : ℕ) → q ≡ true → at ≡ at + length (keptLine line)
+  nothing-after at h = omega (arith, ap length (no-line h))
+
+  pub nothing-put : (out : List ℕ) (at : ℕ) → q ≡ true → out ≡ pasted out at (keptLine line)
+  nothing-put out at h = sym (ap (pasted out at) (no-line h) ∙ pasted-nothing out at)
+
+  module _ {text : List ℕ} (h : q ≡ false) (t : text ≡ take 50 (drop 0 line)) where
+    some-line : keptLine line ≡ text ++ lineEnd
+    unfolding keptLine pick
+    some-line = rw (← e, h) (ap (λ l. l ++ lineEnd) (sym t))
+
+    pub some-long : length (keptLine line) ≡ length text + 2
+    some-long = ap length some-line ∙ length-append text lineEnd
+
+    pub line-after : {end : ℕ} (at : ℕ) → end ≡ at + length text → end + 2 ≡ at + length (keptLine line)
+    line-after at d = omega (arith, some-long)
+
+    pub line-put : {end : ℕ} {p o : List ℕ} (out : List ℕ) (at : ℕ) → at + length (keptLine line) ≤ length out → end ≡ at + length text → p ≡ putIn out at text → o ≡ putIn p end lineEnd → o ≡ pasted out at (keptLine line)
+    line-put {p = p} out at r d f g = put-both out at text lineEnd (omega (arith, some-long)) f (g ∙ ap (λ n. putIn p n lineEnd) d) ∙ ap (pasted out at) (sym some-line)
+
+pub ruleset line-puts = (nothing-after, nothing-put, line-after, line-put)
 
 kept-none : (file : List ℕ) (i : ℕ) → length file ≤ i → keptOf (linesIn (drop i file)) ≡ []
 unfolding keptOf
 kept-none file i h = ap keptOf (lines-none file i h)
 
--- the line at a place of the file
-module _ {p line : List ℕ} {i : ℕ} (file : List ℕ) (h : i < length file) (e : p ≡ nextLine (drop i file)) (d : line ≡ keptLine p) where
-  kept-at : keptOf (linesIn (drop i file)) ≡ line ++ keptOf (linesIn (drop (i + length p) file))
-  unfolding keptOf
-  kept-at = ap keptOf (lines-at file i h e) ∙ ap (λ x. x ++ keptOf (linesIn (drop (i + length p) file))) (sym d)
-
-  long-at : length (keptOf (linesIn (drop i file))) ≡ length line + length (keptOf (linesIn (drop (i + length p) file)))
-  long-at = ap length kept-at ∙ length-append line (keptOf (linesIn (drop (i + length p) file)))
-
-  line-in : length line ≤ length p
-  line-in = rw d (line-short p)
-
 -- ## Counting
 
 pub record Counting (file : List ℕ) (n i : ℕ) : Type 0 where
-  pub is : n + length (keptOf (linesIn (drop i file))) ≡ length (withoutCities file)
+  pub is : n + keptCount (linesIn (drop i file)) ≡ keptCount (linesIn file)
   pub small : n ≤ i
 
 pub count-none : (file : List ℕ) → Counting file 0 0
-unfolding withoutCities
 count-none file = record { is = omega arith; small = omega arith }
 
-module _ {file p line : List ℕ} {n i : ℕ} (c : Counting file n i) (h : i < length file) (e : p ≡ nextLine (drop i file)) (d : line ≡ keptLine p) where
-  pub count-more : Counting file (n + length line) (i + length p)
-  count-more = record { is = omega (arith, c .is, long-at file h e d); small = omega (arith, c .small, line-in file h e d) }
+module _ {file p : List ℕ} {n m i : ℕ} (c : Counting file n i) (h : i < length file) (e : p ≡ nextLine (drop i file)) (d : m ≡ keptOne p) where
+  count-at : keptCount (linesIn (drop i file)) ≡ m + keptCount (linesIn (drop (i + length p) file))
+  unfolding keptCount
+  count-at = ap keptCount (lines-at file i h e) ∙ ap (λ k. k + keptCount (linesIn (drop (i + length p) file))) (sym d)
 
-  pub count-fits : n + length line ≤ length file
-  count-fits = omega (arith, c .small, line-in file h e d, line-inside file i h e)
+  pub count-more : Counting file (n + m) (i + length p)
+  count-more = record { is = omega (arith, c .is, count-at); small = omega (arith, c .small, d, one-at-most p, line-inside file i h e) }
 
-pub count-all : {file : List ℕ} {n i : ℕ} → Counting file n i → length file ≤ i → n ≡ length (withoutCities file)
-count-all {file} {n} {i} c h = omega (arith, c .is, ap length (kept-none file i h))
+  pub count-fits : n + m ≤ length file
+  count-fits = omega (arith, c .small, d, one-at-most p, line-inside file i h e)
 
-pub ruleset counts = (count-none, count-more, count-fits, count-all, needs)
+pub count-all : {file : List ℕ} {n i : ℕ} → Counting file n i → length file ≤ i → n ≡ keptCount (linesIn file)
+unfolding keptCount
+count-all {file} {n} {i} c h = omega (arith, c .is, ap keptCount (lines-none file i h))
+
+pub ruleset counts = (count-none, count-more, count-all, needs)
 
 -- ## Copying
 
@@ -101,25 +120,46 @@ module _ {file o out : List ℕ} {at i : ℕ} (c : Copying file o out at i) wher
   pub copy-all : length file ≤ i → out ≡ pasted o 0 (withoutCities file)
   copy-all h = c .is ∙ ap (pasted o 0) (sym (append-nil (c .done)) ∙ ap (λ r. c .done ++ r) (sym (kept-none file i h)) ∙ c .left)
 
-  module _ {p line : List ℕ} (h : i < length file) (e : p ≡ nextLine (drop i file)) (d : line ≡ keptLine p) where
-    pub copy-sum : at + length line ≤ length o
-    copy-sum = omega (arith, done-in, long-at file h e d)
+  -- the line at a place of the file
+  module _ {p : List ℕ} (h : i < length file) (e : p ≡ nextLine (drop i file)) where
+    kept-at : keptOf (linesIn (drop i file)) ≡ keptLine p ++ keptOf (linesIn (drop (i + length p) file))
+    unfolding keptOf
+    kept-at = ap keptOf (lines-at file i h e)
 
-    pub copy-more : {out' : List ℕ} → out' ≡ putIn out at line → Copying file o out' (at + length line) (i + length p)
-    copy-more q =
+    pub copy-room : at + length (keptLine p) ≤ length out
+    copy-room = omega (arith, done-in, copy-kept, ap length kept-at ∙ length-append (keptLine p) (keptOf (linesIn (drop (i + length p) file))))
+
+    pub copy-more : {next : ℕ} {out' : List ℕ} → next ≡ at + length (keptLine p) → out' ≡ pasted out at (keptLine p) → Copying file o out' next (i + length p)
+    copy-more n q =
         let z : 0 + length (c .done) ≡ at = omega (arith, c .long) in
         record {
-          done = c .done ++ line;
-          long = length-append (c .done) line ∙ ap (λ n. n + length line) (c .long);
-          is =
-              put-fits out at line (omega (arith, copy-sum, copy-kept)) q
-              ∙ ap₂ (λ x n. pasted x n line) (c .is) (sym z)
-              ∙ pasted-both o 0 (c .done) line (omega (arith, c .long, done-in));
-          left = append-assoc (c .done) line (keptOf (linesIn (drop (i + length p) file))) ∙ ap (λ x. c .done ++ x) (sym (kept-at file h e d)) ∙ c .left;
+          done = c .done ++ keptLine p;
+          long = length-append (c .done) (keptLine p) ∙ ap (λ m. m + length (keptLine p)) (c .long) ∙ sym n;
+          is = q ∙ ap₂ (λ x m. pasted x m (keptLine p)) (c .is) (sym z) ∙ pasted-both o 0 (c .done) (keptLine p) (omega (arith, c .long, done-in));
+          left = append-assoc (c .done) (keptLine p) (keptOf (linesIn (drop (i + length p) file))) ∙ ap (λ x. c .done ++ x) (sym kept-at) ∙ c .left;
           room = c .room;
         }
 
 pub ruleset copies = (copy-none, copy-kept, copy-all, copy-more, needs)
+
+-- ## Of an accepted file each line that is kept has 52 bytes
+
+kept-52 : (xs : List ℕ) → 50 ≤ length (nextLine xs) → (q : Bool) → length (pick q [] (take 50 (nextLine xs) ++ lineEnd)) ≡ pick q 0 1 * 52
+unfolding pick
+kept-52 xs h true = refl
+kept-52 xs h false = length-append (take 50 (nextLine xs)) lineEnd ∙ omega (arith, length-take-le 50 (nextLine xs) h)
+
+kept-long : {s u : State} {xs : List ℕ} {lines : List (List ℕ)} → Runs s xs lines u → length (keptOf lines) ≡ keptCount lines * 52
+unfolding keptOf keptLine keptCount keptOne
+kept-long no-more = refl
+kept-long (line {s = s} {x = x} {xs} {lines} t r) =
+    let n : 50 ≤ length (nextLine (x ∷ xs)) = omega (arith, length-take (cutOf (x ∷ xs) .bytes) (x ∷ xs), whole-long (s .before .ending) (x ∷ xs) (t .whole), cut-bytes (x ∷ xs)) in
+    let k = kept-52 (x ∷ xs) n (isCity (nextLine (x ∷ xs))) in
+    length-append (keptLine (nextLine (x ∷ xs))) (keptOf lines) ∙ omega (arith, k, kept-long r)
+
+pub kept-size : {n : ℕ} (file : List ℕ) → checkOf file .number ≡ 0 → n ≡ keptCount (linesIn file) → n * 52 ≡ length (withoutCities file)
+unfolding withoutCities
+kept-size file z e = ap (λ m. m * 52) e ∙ sym (kept-long (runs-file file z))
 
 -- ## The answer
 
@@ -128,13 +168,24 @@ module _ {a : Answer} (file : List ℕ) (room : ℕ) (e : a ≡ checkOf file) wh
   unfolding rewrittenOf pick
   by-refusal z h = h ∙ sym (ap (λ b. rewrittenBy b (length (withoutCities file)) room) (sym e) ∙ rw (ne-eqb _ _ z))
 
-  pub by-room : {w : Rewritten} {b : Answer} {n : ℕ} → a .number ≡ 0 → n ≡ length (withoutCities file) → room < n → b ≡ refusal 12 (a .line) 0 → w ≡ answered b 0 → w ≡ rewrittenOf file room
-  unfolding rewrittenOf pick
-  by-room {n = n} z f l g h = h ∙ ap (λ b. answered b 0) g ∙ sym (ap₂ (λ b m. rewrittenBy b m room) (sym e) (sym f) ∙ rw (eq-eqb _ _ z, lt-leb n room l))
+  module _ {n : ℕ} (z : a .number ≡ 0) (f : n ≡ keptCount (linesIn file)) where
+    size : n * 52 ≡ length (withoutCities file)
+    size = kept-size file (ap (λ (b : Answer). b .number) (sym e) ∙ z) f
 
-  pub by-acceptance : {w : Rewritten} {n : ℕ} → a .number ≡ 0 → n ≡ length (withoutCities file) → n ≤ room → w ≡ answered a n → w ≡ rewrittenOf file room
-  unfolding rewrittenOf pick
-  by-acceptance {n = n} z f l h = h ∙ sym (ap₂ (λ b m. rewrittenBy b m room) (sym e) (sym f) ∙ rw (eq-eqb _ _ z, le-leb n room l))
+    pub by-room : {w : Rewritten} {b : Answer} → room / 52 < n → b ≡ refusal 12 (a .line) 0 → w ≡ answered b 0 → w ≡ rewrittenOf file room
+    unfolding rewrittenOf pick
+    by-room l g h =
+        let m : room < n * 52 = omega arith in
+        h ∙ ap (λ b. answered b 0) g ∙ sym (ap₂ (λ b m. rewrittenBy b m room) (sym e) (sym size) ∙ rw (eq-eqb _ _ z, lt-leb (n * 52) room m))
+
+    pub by-acceptance : {w : Rewritten} → n ≤ room / 52 → w ≡ answered a (n * 52) → w ≡ rewrittenOf file room
+    unfolding rewrittenOf pick
+    by-acceptance l h =
+        let m : n * 52 ≤ room = omega arith in
+        h ∙ sym (ap₂ (λ b m. rewrittenBy b m room) (sym e) (sym size) ∙ rw (eq-eqb _ _ z, le-leb (n * 52) room m))
+
+    pub copy-asked : n ≤ room / 52 → length (withoutCities file) ≤ room
+    copy-asked l = omega (arith, size)
 
 module _ {a : Answer} {o : List ℕ} (file out : List ℕ) (e : a ≡ checkOf file) where
   pub room-refused : (a .number ≡ 0 → ⊥) → o ≡ out → o ≡ roomAfter file out
@@ -146,13 +197,14 @@ module _ {a : Answer} {o : List ℕ} (file out : List ℕ) (e : a ≡ checkOf fi
   unfolding roomAfter pick
   accepted-room z h = h ∙ sym (ap (λ b. roomBy b (withoutCities file) out) (sym e) ∙ rw (eq-eqb _ _ z))
 
-  pub room-small : {n : ℕ} → a .number ≡ 0 → n ≡ length (withoutCities file) → length out < n → o ≡ out → o ≡ roomAfter file out
-  room-small z f l h = accepted-room z (h ∙ put-long out 0 (withoutCities file) (omega arith) (omega (arith, f)))
+  pub room-small : {n : ℕ} → a .number ≡ 0 → n ≡ keptCount (linesIn file) → length out / 52 < n → o ≡ out → o ≡ roomAfter file out
+  room-small z f l h = accepted-room z (h ∙ put-long out 0 (withoutCities file) (omega arith) (omega (arith, size file (length out) e z f)))
 
-  pub room-filled : {n : ℕ} → a .number ≡ 0 → n ≡ length (withoutCities file) → n ≤ length out → o ≡ pasted out 0 (withoutCities file) → o ≡ roomAfter file out
-  room-filled z f l h = accepted-room z (put-fitting out 0 (withoutCities file) (omega arith) (omega (arith, f)) h)
+  pub room-filled : {n : ℕ} → a .number ≡ 0 → n ≡ keptCount (linesIn file) → n ≤ length out / 52 → o ≡ pasted out 0 (withoutCities file) → o ≡ roomAfter file out
+  room-filled z f l h = accepted-room z (put-fitting out 0 (withoutCities file) (omega arith) (omega (arith, size file (length out) e z f)) h)
 
-pub copy-asked : {n room : ℕ} (file : List ℕ) → n ≡ length (withoutCities file) → n ≤ room → length (withoutCities file) ≤ room
-copy-asked file e h = omega (arith, e)
+-- what is said to be written fits
+pub written-fits : {n room : ℕ} → n ≤ room / 52 → n * 52 ≤ room
+written-fits l = omega arith
 
 pub ruleset rooms = (by-refusal, by-room, by-acceptance, room-refused, room-small, room-filled, needs)

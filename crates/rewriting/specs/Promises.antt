@@ -5,6 +5,10 @@ use mathlib.Core.List.{List, [], _∷_, _++_}
 use mathlib.Core.Bool.{Bool, true, not, _&&_}
 use mathlib.Core.Option.{none, some}
 use lib.ListN.{take}
+use Rattle.machine.specs.Lists.{pick}
+use Rattle.format.specs.Records.{code}
+use Rattle.format.specs.declared.Kind.{Kind}
+use Rattle.format.specs.Language.{File, Rec, fileRecs, Valid, crlf, endBytes, linesOf, Reads}
 use Rattle.format.specs.Answers.{accepted}
 use Rattle.format.specs.Cutting.{afterNext, linesIn}
 use Rattle.format.specs.Statements.{InLanguage}
@@ -34,10 +38,20 @@ pub data Rewrites : State → State → List ℕ → List ℕ → Type 0 where
       → Rewrites (stepAt s (x ∷ xs) .next) (writtenOf w e (stepAt s (x ∷ xs) .text) 52 .next) (afterNext (x ∷ xs)) out
       → Rewrites s w (x ∷ xs) (lineFor w e (stepAt s (x ∷ xs) .text) ++ out)
 
+abbrev pub isCityKind : Kind → Bool
+isCityKind k = isCity (code k)
+
+-- some records but those of cities
+unfoldable pub keptRecs : List Rec → List Rec
+keptRecs [] = []
+keptRecs (r ∷ rs) = pick (isCityKind (r .0)) (keptRecs rs) (r ∷ keptRecs rs)
+
 -- of the bytes written
 pub record Again (file bytes : List ℕ) : Type 0 where
-  -- of a file without city records: the same file
-  pub same-file : noCity (linesIn file) ≡ true → bytes ≡ file
+  -- of a file with 13, 10 and without city records: the same file
+  pub same-file : (f : File) → Valid f → file ≡ linesOf (endBytes crlf) (fileRecs f) → noCity (linesIn file) ≡ true → bytes ≡ file
+  -- of every file, whichever end its lines have: the records of its reading but those of cities, in lines that end with 13, 10
+  pub only-ends : (f : File) → Reads file f → bytes ≡ linesOf (endBytes crlf) (keptRecs (fileRecs f))
   -- of every file: the reader accepts them, so they are a file of the language, and none of it is a city record
   pub accepted-again : checkOf bytes .number ≡ accepted
   pub in-language : InLanguage bytes

@@ -1,18 +1,20 @@
 // Writes an accepted file again without its city records: 'a file with city records is written again without those
-// lines'. The file's own lines are copied, not built anew. That they are what `writer::write` writes of the file's
-// records, one after the other from a state of its own, is proved of the bytes (`Promised`, by-writer); no call of the
-// writer stands in this code.
+// lines'. The characters of the file's own lines are copied, not built anew, and each line gets the writer's end. That
+// they are what `writer::write` writes of the file's records, one after the other from a state of its own, is proved of
+// the bytes (`Promised`, by-writer); no call of the writer stands in this code.
 ghost use mathlib.Core.Path.{_≡_};
-ghost use Prim.Native.Nat.{_≤_};
+ghost use Prim.Native.Nat.{_+_, _≤_};
 ghost use lib.ListN.{length};
 ghost use Rattle.machine.specs.Lists.{pasted};
-ghost use Rattle.rewriting.specs.Cities.{keptLine, withoutCities};
+ghost use Rattle.format.specs.Cutting.{linesIn};
+ghost use Rattle.rewriting.specs.Cities.{keptLine, keptOne, keptCount, withoutCities};
 ghost use Rattle.rewriting.specs.Promises.{Promised};
 ghost use Rattle.rewriting.specs.Rewriting.{rewrittenOf, roomAfter};
 use field::bytes::next_line;
 use field::bytes::part;
 use field::bytes::put;
 use format::Answer;
+use format::codes;
 use record::kinds::is_city;
 
 // What a file to write again is answered, and how many bytes were written.
@@ -21,29 +23,44 @@ pub struct Rewritten {
     pub written: usize,
 }
 
-// A line, or nothing of a city's.
-fn kept(line: &[u8]) -> &[u8]
-    ensures { λ r. ⌜ now r ≡ keptLine (now (line .entry)) ⌝ }
+// One line, or none of a city's.
+fn counted(line: &[u8]) -> usize
+    ensures { λ r. ⌜ r ≡ keptOne (now (line .entry)) ⌝ }
 {
     if is_city(line) {
-        return part(line, 0, 0);
+        return 0;
     }
-    line
+    1
 }
 
-// How many bytes a file has without its cities.
-fn size(file: &[u8]) -> usize
-    ensures { λ r. ⌜ r ≡ length (withoutCities (now (file .entry))) ⌝ }
+// How many lines of a file are no city's.
+fn count(file: &[u8]) -> usize
+    ensures { λ r. ⌜ r ≡ keptCount (linesIn (now (file .entry))) ⌝ }
 {
     let mut n: usize = 0;
     let mut i: usize = 0;
     while i < file.len() {
         let line = next_line(file, i);
-        let written = kept(line);
-        n += written.len();
+        n += counted(line);
         i += line.len();
     }
     n
+}
+
+// A line from an offset on with the writer's end, or nothing of a city's: where the next one goes.
+fn put_line(line: &[u8], at: usize, out: &mut [u8]) -> usize
+    requires { ⌜ at + length (keptLine (now line)) ≤ length (now out) ⌝ }
+    ensures next { λ r. ⌜ r ≡ at + length (keptLine (now (line .entry))) ⌝ }
+    ensures bytes { λ _. ⌜ now (out .exit) ≡ pasted (now (out .entry)) at (keptLine (now (line .entry))) ⌝ }
+{
+    if is_city(line) {
+        return at;
+    }
+    let text = part(line, 0, 50);
+    let end = at + text.len();
+    put(text, at, out);
+    put(&codes::LINE_END, end, out);
+    end + 2
 }
 
 // The lines that are no city's, one after the other.
@@ -55,9 +72,7 @@ fn copy(file: &[u8], out: &mut [u8])
     let mut i: usize = 0;
     while i < file.len() {
         let line = next_line(file, i);
-        let written = kept(line);
-        put(written, at, out);
-        at += written.len();
+        at = put_line(line, at, out);
         i += line.len();
     }
 }
@@ -75,8 +90,8 @@ pub fn rewrite(file: &[u8], out: &mut [u8]) -> Rewritten
             written: 0,
         };
     }
-    let n = size(file);
-    if out.len() < n {
+    let n = count(file);
+    if out.len() / writer::LINE < n {
         return Rewritten {
             answer: Answer::refusal(format::NO_ROOM, a.line, 0),
             written: 0,
@@ -85,6 +100,6 @@ pub fn rewrite(file: &[u8], out: &mut [u8]) -> Rewritten
     copy(file, out);
     Rewritten {
         answer: a,
-        written: n,
+        written: n * writer::LINE,
     }
 }

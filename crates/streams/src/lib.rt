@@ -19,9 +19,9 @@ pub use twice::Source;
 pub use twice::again;
 pub use twice::rereadable;
 
-// The length of a buffer that lines are read into, or written from: a whole number of lines, so that one that is
-// written from is full at a line's end.
-pub const BUFFER: usize = 65520;
+// The length of a buffer that lines are read into, or written from: 24 times 51 times 52, a whole number of lines with
+// either end. One that is written from has 52 bytes a line, so it is full at a line's end.
+pub const BUFFER: usize = 63648;
 
 // An input: its descriptor, which is negative where it cannot be opened, and how many characters its name has.
 pub struct Input {

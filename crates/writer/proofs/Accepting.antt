@@ -5,17 +5,17 @@ use mathlib.Core.List.{List, [], _∷_, _++_, append-assoc}
 use mathlib.Core.Bool.{true}
 use native.Mathlib.Omega.{arith}
 use lib.ListN.{length, take, drop, take-append-drop, length-take, length-drop}
-use lib.Seq.{take-all, take-add, take-take, drop-drop, length-take-le}
+use lib.Seq.{take-all, take-add, drop-drop, length-take-le}
 use Rattle.machine.proofs.Base.{of-eq}
 use Rattle.format.specs.Fields.{Field, width, widths, writeFields, Fits}
 use Rattle.format.specs.Records.{layout, code, Fields}
-use Rattle.format.specs.Language.{Ending, crlf, endBytes}
-use Rattle.format.specs.Cutting.{cutOf, nextLine}
+use Rattle.format.specs.Cutting.{isOpen, cutOf}
 use Rattle.format.specs.Tests.{Tests}
+use Rattle.format.specs.declared.Cut.{Cut}
 use Rattle.format.specs.declared.Kind.{Kind}
 use Rattle.format.specs.Answers.{acceptance}
 use Rattle.format.specs.declared.Code.the-variants.{Of}
-use Rattle.format.proofs.Cutting.{cut-bytes, whole-line, whole-long, whole-next}
+use Rattle.format.proofs.Cutting.{cut-bytes, whole-long, whole-next}
 use Rattle.format.proofs.Checks.{Holds, read-field}
 use Rattle.format.proofs.Link.{line-widths}
 use Rattle.field.specs.Rows.{partAt, fieldsAt}
@@ -24,13 +24,13 @@ use Rattle.record.specs.Faults.{fieldsOf, testsFor}
 use Rattle.record.specs.Read.{recordFor, textFor}
 use Rattle.record.proofs.Faultless.{Formed, faultless}
 use Rattle.record.proofs.Coding.{code-is}
-use Rattle.reading.specs.Step.{nextFor, judgedFirst, readBy, stepAt}
+use Rattle.reading.specs.Step.{withEnding, nextFor, judgedFirst, readBy, stepAt}
 use Rattle.reading.specs.declared.State.{State}
 use Rattle.reading.specs.declared.Judged.{Judged}
 use Rattle.reading.specs.declared.LineRead.{LineRead}
 use Rattle.reading.proofs.Answers.{step-first, step-judged}
 use Rattle.reading.proofs.Slices.{step-own}
-use Rattle.reading.proofs.Verdicts.{next-line, Taken, takes}
+use Rattle.reading.proofs.Verdicts.{next-line, takenAs, Taken, takes}
 use Rattle.writer.specs.Encoding.{lineEnd}
 
 -- ## Fields that are well formed are what the table writes of them
@@ -52,22 +52,27 @@ formed-back c (f ∷ fs) xs p h w =
 
 -- ## An accepted line
 
--- a record that is read and taken
-abbrev pub takenAs : State → (k : Kind) → Fields k → LineRead
-takenAs s k x = record { answer = acceptance (s .line + 1); next = nextFor s k x; read = recordFor k x; text = textFor k x }
+-- a record that is read and taken, of bytes that are cut so
+abbrev pub readAs : State → Cut → (k : Kind) → Fields k → LineRead
+readAs s c k x = record { answer = acceptance (s .line + 1); next = withEnding (c .ending) (nextFor s k x); bytes = c .bytes; read = recordFor k x; text = textFor k x }
 
 pub record Accepted (s : State) (xs : List ℕ) : Type 0 where
-  pub whole : cutOf xs .whole ≡ true
+  pub whole : isOpen (s .before .ending) (cutOf xs .ending) ≡ true
   pub kind : Kind
   pub coded : codeOf (take 5 (take 50 xs)) ≡ Of kind
   pub fields : Faultless 6 (layout kind) (testsFor (s .before) (s .batch) kind (fieldsOf kind (take 50 xs))) (take 50 xs)
-  pub step : stepAt s xs ≡ takenAs s kind (fieldsOf kind (take 50 xs))
+  pub step : stepAt s xs ≡ readAs s (cutOf xs) kind (fieldsOf kind (take 50 xs))
 
-of-taken : {s : State} {xs : List ℕ} (t : Taken s xs) → stepAt s xs ≡ readBy (take 50 xs) (judgedFirst s xs .code) (judgedFirst s xs) → Accepted s xs
+pub read-taken : (s : State) (xs : List ℕ) (k : Kind) → 0 < length xs → judgedFirst s xs ≡ takenAs s k xs → stepAt s xs ≡ readAs s (cutOf xs) k (fieldsOf k (take 50 xs))
+read-taken s xs k h e =
+    let x = fieldsOf k (take 50 xs) in
+    step-first s xs h ∙ ap (λ (j : Judged). readBy (take 50 xs) (j .code) j) e
+    ∙ ap (λ n. record { answer = acceptance n; next = withEnding (cutOf xs .ending) (nextFor s k x); bytes = cutOf xs .bytes; read = recordFor k x; text = textFor k x }) (next-line s k x)
+
+of-taken : {s : State} {xs : List ℕ} (t : Taken s xs) → 0 < length xs → Accepted s xs
 of-taken {s} {xs} t e =
     let k = t .kind in
-    let x = fieldsOf k (take 50 xs) in
-    let l : length (take 50 xs) ≡ 50 = length-take-le 50 xs (omega (arith, whole-long xs (t .whole), cut-bytes xs)) in
+    let l : length (take 50 xs) ≡ 50 = length-take-le 50 xs (omega (arith, whole-long (s .before .ending) xs (t .whole), cut-bytes xs)) in
     let v = line-widths k .1 in
     let f = faultless (s .before) (s .batch) k (take 50 xs) (t .faultless) in
     let m = formed-back 6 (layout k) (take 50 xs) (omega arith) (omega arith) (f .0) in
@@ -76,14 +81,11 @@ of-taken {s} {xs} t e =
       kind = k;
       coded = t .coded;
       fields = record { fits = m .0; holds = f .1; is = m .1 };
-      step = e ∙ ap (λ (j : Judged). readBy (take 50 xs) (j .code) j) (t .is) ∙ ap (λ n. record { answer = acceptance n; next = nextFor s k x; read = recordFor k x; text = textFor k x }) (next-line s k x);
+      step = read-taken s xs k e (t .is);
     }
 
 pub accepts : (s : State) (xs : List ℕ) → 0 < length xs → stepAt s xs .answer .number ≡ 0 → Accepted s xs
-accepts s xs h z = of-taken (takes s xs (sym (step-judged s xs h .0) ∙ z)) (step-first s xs h)
-
-take-50 : (xs : List ℕ) → take 50 (nextLine xs) ≡ take 50 xs
-take-50 xs = take-take 50 (cutOf xs .bytes) xs (omega (arith, cut-bytes xs))
+accepts s xs h z = of-taken (takes s xs (sym (step-judged s xs h .0) ∙ z)) h
 
 -- its bytes by its fields
 module _ {s : State} {xs : List ℕ} (a : Accepted s xs) where
@@ -93,20 +95,14 @@ module _ {s : State} {xs : List ℕ} (a : Accepted s xs) where
   pub accepted-body : take 45 (drop 5 (take 50 xs)) ≡ writeFields (layout (a .kind)) (fieldsOf (a .kind) (take 50 xs))
   accepted-body = ap (λ n. take n (drop 5 (take 50 xs))) (sym (line-widths (a .kind) .1)) ∙ a .fields .is
 
-  ending : drop 50 (nextLine xs) ≡ lineEnd
-  ending = let w = whole-line xs (a .whole) in by (w .0) (w .1 .ended)
-    where
-      by : (z : Ending) → drop 50 (nextLine xs) ≡ endBytes z → drop 50 (nextLine xs) ≡ lineEnd
-      by crlf h = h
-
-  pub accepted-line : nextLine xs ≡ code (a .kind) ++ (writeFields (layout (a .kind)) (fieldsOf (a .kind) (take 50 xs)) ++ lineEnd)
+  -- with the writer's end
+  pub accepted-line : take 50 xs ++ lineEnd ≡ code (a .kind) ++ (writeFields (layout (a .kind)) (fieldsOf (a .kind) (take 50 xs)) ++ lineEnd)
   accepted-line =
       let m : length (drop 5 (take 50 xs)) ≤ 45 = rw (length-drop, length-take) (omega arith) in
-      sym (take-append-drop 50 (nextLine xs))
-      ∙ ap₂ _++_ (take-50 xs ∙ sym (take-append-drop 5 (take 50 xs)) ∙ ap₂ _++_ accepted-code (sym (take-all 45 (drop 5 (take 50 xs)) m) ∙ accepted-body)) ending
+      ap (λ l. l ++ lineEnd) (sym (take-append-drop 5 (take 50 xs)) ∙ ap₂ _++_ accepted-code (sym (take-all 45 (drop 5 (take 50 xs)) m) ∙ accepted-body))
       ∙ append-assoc (code (a .kind)) (writeFields (layout (a .kind)) (fieldsOf (a .kind) (take 50 xs))) lineEnd
 
 -- ## A line is judged by its own bytes
 
 pub step-on : {s : State} {xs : List ℕ} → Accepted s xs → (rest : List ℕ) → stepAt s (xs ++ rest) ≡ stepAt s xs
-step-on {s} {xs} a rest = sym (step-own s (xs ++ rest)) ∙ ap (stepAt s) (whole-next xs rest (a .whole)) ∙ step-own s xs
+step-on {s} {xs} a rest = sym (step-own s (xs ++ rest)) ∙ ap (stepAt s) (whole-next (s .before .ending) xs rest (a .whole)) ∙ step-own s xs

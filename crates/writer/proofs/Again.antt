@@ -16,7 +16,6 @@ use Rattle.machine.proofs.Digits.{spaces-blank}
 use Rattle.format.specs.Fields.{Field, numeric, Values, writeField, writeFields, Fits}
 use Rattle.format.specs.Records.{layout, code, Fields, creationDate, fileName, sender, identification, duplicateCode, group, orderingAccount, sequence, currency, batchIdentification, nameCode, desiredDate, partyName, testCode, type, amount, payer, beneficiary, totalAmount, totalAccounts, items}
 use Rattle.format.specs.Rules.{CLIEOP03, EUR, testText, isTestCode, isIdentification, groupText, isGroup, groupOf, typeText, typeOf, isType}
-use Rattle.format.specs.Cutting.{nextLine}
 use Rattle.format.specs.declared.Kind.{Kind}
 use Rattle.format.specs.declared.Kind.the-variants as kinds
 use Rattle.format.specs.declared.Group.the-variants.{Payments, Debits}
@@ -251,7 +250,7 @@ again s kinds.FileTrailer x f h e q = written-as s noText FileTrailer x (blank-n
 
 -- ## The line
 
-pub written-again : (s : State) (xs : List ℕ) → 0 < length xs → stepAt s xs .answer .number ≡ 0 → (e : Entry) → entryOf (stepAt s xs .read) ≡ some e → nextLine xs ≡ lineFor s e (stepAt s xs .text)
+pub written-again : (s : State) (xs : List ℕ) → 0 < length xs → stepAt s xs .answer .number ≡ 0 → (e : Entry) → entryOf (stepAt s xs .read) ≡ some e → take 50 xs ++ lineEnd ≡ lineFor s e (stepAt s xs .text)
 written-again s xs l z e q =
     let a = accepts s xs l z in
     let k = a .kind in

@@ -29,7 +29,11 @@ use Rattle.field.proofs.Numerics.{digits-are}
 use Rattle.record.specs.Faults.{fieldsOf}
 use Rattle.record.specs.Read.{transactionRecord, recordFor, textFor, noText, padded}
 use Rattle.record.specs.declared.Record.the-variants as read
-use Rattle.reading.specs.Step.{nextFor, stepAt}
+use Rattle.format.specs.Language.{crlf}
+use Rattle.format.specs.Cutting.{cutOf}
+use Rattle.format.specs.declared.EndingSoFar.the-variants.{CrLf}
+use Rattle.format.proofs.Cutting.{Line, line-cut}
+use Rattle.reading.specs.Step.{withEnding, nextFor, stepAt}
 use Rattle.reading.specs.declared.State.{State}
 use Rattle.format.specs.Answers.{acceptance}
 use Rattle.reading.specs.declared.LineRead.{LineRead}
@@ -40,7 +44,7 @@ use Rattle.writer.specs.declared.Entry.{Entry}
 use Rattle.writer.specs.declared.Entry.the-variants.{FileHeader, BatchHeader, FixedDescription, OrderingParty, Transaction, NamePayer, PaymentReference, Description, NameBeneficiary, BatchTrailer, FileTrailer}
 use Rattle.writer.proofs.Building.{spaces-split, number-long, text-long, digits-beyond, digits-long, blank-long, group-long, type-long, test-long}
 use Rattle.record.proofs.Coding.{one-kind}
-use Rattle.writer.proofs.Accepting.{Accepted, takenAs, accepts, accepted-body}
+use Rattle.writer.proofs.Accepting.{Accepted, readAs, accepts, accepted-body}
 
 -- ## What a field carries
 
@@ -265,6 +269,9 @@ module _ (s : State) (e : Entry) (t : List ℕ) (h : length t ≡ 35) where
   pub line-52 : length (lineFor s e t) ≡ 52
   line-52 = ap length parts ∙ length-append (code (kindOf e) ++ encodeFields (layout (kindOf e)) (givenFor s t e)) lineEnd ∙ ap (λ n. n + 2) fifty-long
 
+  is-line : Line lineEnd (lineFor s e t)
+  is-line = record { long = line-52; ended = ap (drop 50) parts ∙ drop-at (code (kindOf e) ++ encodeFields (layout (kindOf e)) (givenFor s t e)) lineEnd 50 fifty-long }
+
   front : take 50 (lineFor s e t) ≡ code (kindOf e) ++ encodeFields (layout (kindOf e)) (givenFor s t e)
   front = ap (take 50) parts ∙ take-at (code (kindOf e) ++ encodeFields (layout (kindOf e)) (givenFor s t e)) lineEnd 50 fifty-long
 
@@ -277,7 +284,7 @@ module _ (s : State) (e : Entry) (t : List ℕ) (h : length t ≡ 35) where
       ∙ take-all 45 (encodeFields (layout (kindOf e)) (givenFor s t e)) (omega (arith, body-long))
 
   -- the fields that are read of it are those given
-  of-accepted : (a : Accepted s (lineFor s e t)) → a .kind ≡ kindOf e → stepAt s (lineFor s e t) ≡ record { answer = acceptance (s .line + 1); next = nextFor s (kindOf e) (fieldsOf (kindOf e) (take 50 (lineFor s e t))); read = recordOf s e; text = t }
+  of-accepted : (a : Accepted s (lineFor s e t)) → a .kind ≡ kindOf e → stepAt s (lineFor s e t) ≡ record { answer = acceptance (s .line + 1); next = withEnding CrLf (nextFor s (kindOf e) (fieldsOf (kindOf e) (take 50 (lineFor s e t)))); bytes = 52; read = recordOf s e; text = t }
   of-accepted a q =
       let x = fieldsOf (kindOf e) (take 50 (lineFor s e t)) in
       let f : Fits (layout (kindOf e)) x = subst (λ m. Fits (layout m) (fieldsOf m (take 50 (lineFor s e t)))) q (a .fields .fits) in
@@ -285,11 +292,11 @@ module _ (s : State) (e : Entry) (t : List ℕ) (h : length t ≡ 35) where
       let b = fields-back (layout (kindOf e)) x (givenFor s t e) f (sized s t h e) (sym w ∙ front-body) in
       let r = ap (recordFor (kindOf e)) (b .0) ∙ record-back s t e (b .1) in
       let y = ap (textFor (kindOf e)) (b .0) ∙ text-back-is s t e h (b .1) in
-      a .step ∙ ap (λ m. takenAs s m (fieldsOf m (take 50 (lineFor s e t)))) q
-      ∙ ap₂ (λ i j. record { answer = acceptance (s .line + 1); next = nextFor s (kindOf e) x; read = i; text = j }) r y
+      a .step ∙ ap (λ m. readAs s (cutOf (lineFor s e t)) m (fieldsOf m (take 50 (lineFor s e t)))) q ∙ ap (λ c. readAs s c (kindOf e) x) (line-cut crlf (lineFor s e t) is-line)
+      ∙ ap₂ (λ i j. record { answer = acceptance (s .line + 1); next = withEnding CrLf (nextFor s (kindOf e) x); bytes = 52; read = i; text = j }) r y
 
-  pub read-back : stepAt s (lineFor s e t) .answer .number ≡ 0 → stepAt s (lineFor s e t) ≡ record { answer = acceptance (s .line + 1); next = stepAt s (lineFor s e t) .next; read = recordOf s e; text = t }
+  pub read-back : stepAt s (lineFor s e t) .answer .number ≡ 0 → stepAt s (lineFor s e t) ≡ record { answer = acceptance (s .line + 1); next = stepAt s (lineFor s e t) .next; bytes = 52; read = recordOf s e; text = t }
   read-back z =
       let a = accepts s (lineFor s e t) (omega (arith, line-52)) z in
       let q = of-accepted a (one-kind (a .kind) (kindOf e) (a .coded) front-code) in
-      q ∙ ap (λ n. record { answer = acceptance (s .line + 1); next = n; read = recordOf s e; text = t }) (sym (ap (λ (r : LineRead). r .next) q))
+      q ∙ ap (λ n. record { answer = acceptance (s .line + 1); next = n; bytes = 52; read = recordOf s e; text = t }) (sym (ap (λ (r : LineRead). r .next) q))

@@ -13,7 +13,7 @@ use Rattle.machine.proofs.Base.{of-eq, true≢false}
 use Rattle.format.specs.Fields.{Field, numeric, filled, optional, free, filler, width, widths, wellFormed}
 use Rattle.format.specs.Records.{layout}
 use Rattle.format.specs.Tests.{Test, Tests}
-use Rattle.format.specs.Cutting.{cutOf}
+use Rattle.format.specs.Cutting.{isOpen, cutOf}
 use Rattle.format.proofs.Link.{line-widths}
 use Rattle.field.specs.Rows.{Row, partAt, firstAnswer, fieldAnswer, rowsAt, checkRows, firstOr}
 use Rattle.record.specs.Kinds.{codeOf}
@@ -21,7 +21,7 @@ use Rattle.record.specs.Faults.{faultAt, noFault, firstFault, fieldsOf, testsFo
 use Rattle.record.specs.declared.Fault.{Fault}
 use Rattle.reading.specs.State.{within}
 use Rattle.reading.specs.Order.{allowed}
-use Rattle.reading.specs.Step.{nextFor, refused, taken, judgedAs, judgedKind, judgedCode, judgedLine, isDone, judgedFirst, stepAt}
+use Rattle.reading.specs.Step.{nextFor, refused, taken, judgedAs, judgedKind, judgedCode, judgedLine, cutOff, isDone, judgedFirst, stepAt}
 use Rattle.reading.specs.declared.State.{State}
 use Rattle.reading.specs.declared.Judged.{Judged}
 use Rattle.writer.specs.Encoding.{Given, Givens, encodeField, encodeFields}
@@ -153,13 +153,17 @@ module _ (s : State) (e : Entry) (t : List ℕ) (h : length t ≡ 35) (z : unfit
   unfolding judgedLine
   line-stops = subst (λ c. Stops (judgedCode s line c)) (sym (ap codeOf (front-code s e t h) ∙ code-found (kindOf e))) kind-stops
 
+  cut-stops : Stops (judgedLine s line) → Stops (cutOff (cutOf (lineFor s e t)) (judgedLine s line))
+  unfolding cutOff pick
+  cut-stops f = rw (ne-eqb (judgedLine s line .number) 0 (f .some)) f
+
   first-stops : Stops (judgedFirst s (lineFor s e t))
   unfolding judgedFirst pick
-  first-stops = by (within s) (isDone s) (cutOf (lineFor s e t) .whole) line-stops
+  first-stops = by (within s) (isDone s) (isOpen (s .before .ending) (cutOf (lineFor s e t) .ending)) line-stops
     where
-      by : (a b c : Bool) → Stops (judgedLine s line) → Stops (pick a (pick b (refused s 0 11) (pick c (judgedLine s line) (refused s 0 1))) (refused s 0 24))
+      by : (a b c : Bool) → Stops (judgedLine s line) → Stops (pick a (pick b (refused s 0 11) (pick c (cutOff (cutOf (lineFor s e t)) (judgedLine s line)) (refused s 0 1))) (refused s 0 24))
       by true true c f = before 11 0 (λ i. omega arith) (omega arith)
-      by true false true f = f
+      by true false true f = cut-stops f
       by true false false f = before 1 0 (λ i. omega arith) (omega arith)
       by false b c f = before 24 0 (λ i. omega arith) (omega arith)
 

@@ -7,10 +7,12 @@ use lib.ListN.{take, drop, replicate}
 use Rattle.machine.specs.Lists.{spaces}
 use Rattle.format.specs.Answers.{refusal, acceptance}
 use Rattle.format.specs.declared.Answer.{Answer}
+use Rattle.format.specs.declared.EndingSoFar.the-variants.{CrLf, Lf}
 use Rattle.format.specs.declared.Group.the-variants.{Payments}
 use Rattle.format.specs.declared.TransactionType.the-variants.{Salary}
 use Rattle.record.specs.Faults.{nothingBefore, afterHeader}
 use Rattle.reading.specs.State.{noItem, startState}
+use Rattle.reading.specs.Step.{withEnding}
 use Rattle.reading.specs.declared.Stage.{Stage}
 use Rattle.reading.specs.declared.Stage.the-variants as stage
 use Rattle.reading.specs.declared.Name.{Name}
@@ -68,6 +70,8 @@ pub record SumWritten (payer beneficiary sum : ℕ) (digits : List ℕ) : Type 0
 
 pub record Cases : Type 0 where
   pub header : Answers startState (FileHeader 150309 1501 1) (letters 5) 52 (acceptance 1)
+  -- it fixes 13, 10
+  pub header-fixes : writtenOf startState (FileHeader 150309 1501 1) (letters 5) 52 .next .before .ending ≡ CrLf
   pub no-room : Answers startState (FileHeader 150309 1501 1) (letters 5) 51 (refusal 12 1 0)
   -- 12 only where nothing else applies
   pub refused-first : Answers startState (FileHeader 150309 1501 1) (letters 6) 51 (refusal 4 1 20)
@@ -96,6 +100,11 @@ pub record Cases : Type 0 where
   pub name-lacking : Answers (batchAt 4 stage.Item Due) BatchTrailer (letters 0) 52 (refusal 3 5 1)
   pub too-much : Answers (batchAt 3 stage.Ordered Unwanted) (salaryOf 45378021609) (letters 0) 52 (refusal 5 4 10)
   pub after-trailer : Answers (batchAt 6 stage.Done Unwanted) FileTrailer (letters 35) 0 (refusal 11 7 0)
+  -- where the lines so far end with 10 alone: what the reader would give, 1 after 24 and 11, before all else
+  pub other-end : Answers (withEnding Lf (batchAt 5 stage.Closed Unwanted)) FileTrailer (letters 35) 0 (refusal 1 6 0)
+  pub other-end-misplaced : Answers (withEnding Lf (batchAt 4 stage.Item Due)) BatchTrailer (letters 0) 52 (refusal 1 5 0)
+  pub other-end-after-trailer : Answers (withEnding Lf (batchAt 6 stage.Done Unwanted)) FileTrailer (letters 0) 52 (refusal 11 7 0)
+  pub same-end : Answers (withEnding CrLf (batchAt 5 stage.Closed Unwanted)) FileTrailer (letters 0) 52 (acceptance 6)
   pub beyond-limits : Answers (batchAt 7000000000 stage.Closed Unwanted) FileTrailer (letters 0) 52 (refusal 24 0 0)
   -- the bytes of a line: 0001A150309CLIEOP03AAAAA15011, and the trailer's numbers from the state
   pub header-bytes : lineFor startState (FileHeader 150309 1501 1) (letters 5) ≡ 48 ∷ 48 ∷ 48 ∷ 49 ∷ 65 ∷ 49 ∷ 53 ∷ 48 ∷ 51 ∷ 48 ∷ 57 ∷ 67 ∷ 76 ∷ 73 ∷ 69 ∷ 79 ∷ 80 ∷ 48 ∷ 51 ∷ 65 ∷ 65 ∷ 65 ∷ 65 ∷ 65 ∷ 49 ∷ 53 ∷ 48 ∷ 49 ∷ 49 ∷ (spaces 21 ++ lineEnd)

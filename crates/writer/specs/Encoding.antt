@@ -48,7 +48,7 @@ abbrev pub encodeFields : (fs : List Field) → Givens fs → List ℕ
 encodeFields [] x = []
 encodeFields (f ∷ fs) x = encodeField f (x .0) ++ encodeFields fs (x .1)
 
--- the end of a line
+-- the end of a line: 'The writer keeps writing 13, 10'
 abbrev pub lineEnd : List ℕ
 lineEnd = endBytes crlf
 

@@ -1,9 +1,9 @@
--- WHAT THE WRITER PROMISES: what is written is what the reader reads, what was read is written again as the same line, and what a field cannot carry is refused there.
+-- WHAT THE WRITER PROMISES: what is written is what the reader reads, what was read is written again as the same line but for its end, and what a field cannot carry is refused there.
 use Prim.Native.Nat.{ℕ, _+_, _≤_}
 use mathlib.Core.Path.{_≡_}
 use mathlib.Core.Logic.{_≢_}
 use mathlib.Core.List.{List, [], _∷_, _++_}
-use mathlib.Core.Bool.{Bool, not, _&&_}
+use mathlib.Core.Bool.{Bool, true, not, _&&_}
 use mathlib.Core.Option.{Option, none, some}
 use lib.ListN.{take, drop}
 use lib.Dec.{leb}
@@ -11,13 +11,16 @@ use Rattle.machine.specs.Lists.{pick, all, isSpace}
 use Rattle.machine.specs.Digits.{pow10}
 use Rattle.format.specs.Fields.{Field, numeric, filled, optional, free, filler, width, printable}
 use Rattle.format.specs.Records.{layout}
-use Rattle.format.specs.Cutting.{nextLine}
+use Rattle.format.specs.Cutting.{isOpen, cutOf, nextLine}
+use Rattle.format.specs.declared.EndingSoFar.{EndingSoFar}
+use Rattle.format.specs.declared.EndingSoFar.the-variants.{CrLf}
 use Rattle.format.specs.Answers.{accepted, wrongForm, acceptance}
 use Rattle.record.specs.declared.Record.{Record}
 use Rattle.record.specs.declared.Record.the-variants as read
-use Rattle.reading.specs.Step.{stepAt}
+use Rattle.reading.specs.Step.{withEnding, stepAt}
 use Rattle.reading.specs.declared.State.{State}
-use Rattle.writer.specs.Encoding.{Given, Givens}
+use Rattle.reading.specs.declared.LineRead.{LineRead}
+use Rattle.writer.specs.Encoding.{Given, Givens, lineEnd}
 use Rattle.writer.specs.Entries.{kindOf, givenFor}
 use Rattle.writer.specs.Writing.{answered}
 use Rattle.writer.specs.declared.Entry.{Entry}
@@ -58,21 +61,25 @@ entryOf read.FileTrailer = some FileTrailer
 -- whatever follows it in the file, the reader accepts the line from the same state, hands out the record and the text that were given, and goes to the same next state
 pub record ReadAsWritten (s : State) (e : Entry) (t : List ℕ) (w : Written) (out : List ℕ) : Type 0 where
   pub next-line : w .answer ≡ acceptance (s .line + 1)
-  pub same-record : (rest : List ℕ) → stepAt s (take 52 out ++ rest) ≡ record { answer = w .answer; next = w .next; read = recordOf s e; text = t }
+  pub same-record : (rest : List ℕ) → stepAt s (take 52 out ++ rest) ≡ record { answer = w .answer; next = w .next; bytes = 52; read = recordOf s e; text = t }
 
--- the same bytes, with the same answer and next state
-pub record WrittenAsRead (s : State) (xs : List ℕ) (w : Written) (out : List ℕ) : Type 0 where
-  pub same-answer : w ≡ answered (stepAt s xs .answer) (stepAt s xs .next)
-  pub same-bytes : take 52 out ≡ nextLine xs
+-- the same answer and next state, but for the ending that the writer fixes, and the same characters with the writer's end
+pub record WrittenAsRead (r : LineRead) (xs : List ℕ) (w : Written) (out : List ℕ) : Type 0 where
+  pub same-answer : w ≡ answered (r .answer) (withEnding CrLf (r .next))
+  pub same-characters : take 52 out ≡ take 50 xs ++ lineEnd
+  -- of a line that ends with 13 and 10: the same bytes
+  pub same-bytes : cutOf xs .ending ≡ CrLf → take 52 out ≡ nextLine xs
 
 -- WHAT IS WRITTEN IS READ: an answer w, and the room after it
 unfoldable pub ReadsBack : State → Entry → List ℕ → Written → List ℕ → Type 0
 ReadsBack s e t w out = w .answer .number ≡ accepted → ReadAsWritten s e t w out
 
--- WHAT WAS READ IS WRITTEN: where there is room, a record and text that the reader handed out of a line from the same state
+-- WHAT WAS READ IS WRITTEN: where there is room and 10 alone is not fixed, a record and text that the reader handed out of a line from the same state, whatever its ending is
 unfoldable pub WritesAgain : State → Entry → List ℕ → ℕ → Written → List ℕ → Type 0
 WritesAgain s e t room w out =
-    52 ≤ room → (xs : List ℕ) → stepAt s xs .answer .number ≡ accepted → entryOf (stepAt s xs .read) ≡ some e → stepAt s xs .text ≡ t → WrittenAsRead s xs w out
+    52 ≤ room → isOpen (s .before .ending) CrLf ≡ true → (y : EndingSoFar) (xs : List ℕ) →
+    let r = stepAt (withEnding y s) xs in
+    r .answer .number ≡ accepted → entryOf (r .read) ≡ some e → r .text ≡ t → WrittenAsRead r xs w out
 
 -- a text that a field of this width can carry: of 'bytes 32 to 126', with only spaces beyond the field
 abbrev pub isTextFit : ℕ → List ℕ → Bool

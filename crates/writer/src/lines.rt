@@ -32,8 +32,8 @@ fn coded(kind: Kind) -> [u8; 52]
     ensures { λ r. ⌜ r ≡ code kind ++ (spaces 45 ++ lineEnd) ⌝ }
 {
     let mut line = [32u8; 52];
-    line[50] = 13;
-    line[51] = 10;
+    line[50] = codes::LINE_END[0];
+    line[51] = codes::LINE_END[1];
     put_bytes(line, 0, &code_text(kind))
 }
 

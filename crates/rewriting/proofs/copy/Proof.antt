@@ -3,7 +3,7 @@ use borrow.Author.Needs.{needs}
 use Prim.Native.Nat.{_-_}
 use lib.ListN.{length}
 use Rattle.format.proofs.Cutting.{line-less}
-use Rattle.rewriting.proofs.Copying.{copies, copy-sum, Copying}
+use Rattle.rewriting.proofs.Copying.{copies, copy-room, Copying}
 use Rattle.rewriting.proofs.copy.Statement.{statement}
 use Rattle.rewriting.proofs.copy.Tie as tie
 
@@ -21,9 +21,7 @@ copy-spec =
     μ-loop
     (λ c. search copies depth 20 fits 10000)  -- loop-holds
     (λ c κs. search needs)  -- next-line-requires
-    (λ c κs. search needs)  -- kept-requires
-    (λ c κs. search needs)  -- put-requires
-    (λ c. search (copy-sum (c .before .before .before .before .before .before .before .loop .inv) (c .before .before .before .before .before .before .loop-test .taken) (c .before .before .before .before .before .next-line .ensures) (c .before .before .before .before .kept .ensures), needs))  -- add-at
+    (λ c κs. search copy-room depth 20 fits 10000)  -- put-line-requires
     (λ c. search needs)  -- add-i
     (λ c. search line-less)  -- loop-less
     (λ c. search copies depth 20 fits 10000)  -- loop-again

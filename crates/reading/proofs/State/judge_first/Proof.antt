@@ -1,7 +1,7 @@
 -- What State::judge_first ensures, by the laws of Judgements and Limits.
 use borrow.Author.Needs.{needs}
-use Rattle.reading.proofs.Judgements.{firsts}
-use Rattle.reading.proofs.Limits.{limits}
+use Rattle.reading.proofs.Judgements.{first-beyond, first-done, first-line, first-broken}
+use Rattle.reading.proofs.Limits.{within-yes, within-no}
 use Rattle.reading.proofs.State.judge_first.Statement.{statement}
 use Rattle.reading.proofs.State.judge_first.Tie as tie
 
@@ -10,14 +10,16 @@ judge-first-spec =
     tie.close
     (tie.spec
     (λ c κs. search needs)  -- refused-requires
-    (λ c. search (firsts, limits) depth 20 fits 10000)  -- returns
+    (λ c. search (first-beyond, within-no) depth 3)  -- returns
     (λ c κs. search needs)  -- is-done-requires
     (λ c κs. search needs)  -- refused-requires-2
-    (λ c. search (firsts, limits) depth 20 fits 10000)  -- returns-2
+    (λ c. search (first-done, within-yes) depth 3)  -- returns-2
     (λ c κs. search needs)  -- cut-of-requires
+    (λ c κs. search needs)  -- goes-on-requires
     (λ c κs. search needs)  -- part-requires
     (λ c κs. search needs)  -- judge-requires
+    (λ c κs. search needs)  -- cut-off-requires
     (λ c κs. search needs)  -- refused-requires-3
-    (λ c. search (firsts, limits) depth 20 fits 10000)  -- returns-3
-    (λ c. search (firsts, limits) depth 20 fits 10000)  -- returns-4
+    (λ c. search (first-line, within-yes) depth 3)  -- returns-3
+    (λ c. search (first-broken, within-yes) depth 3)  -- returns-4
     )

@@ -2,8 +2,7 @@
 use borrow.Author.Needs.{needs}
 use Prim.Native.Nat.{_-_}
 use lib.ListN.{length}
-use Rattle.format.proofs.Cutting.{line-less}
-use Rattle.reading.proofs.Running.{Running, runs, run-more}
+use Rattle.reading.proofs.Running.{Running, runs, run-inside, run-less, run-more}
 use Rattle.reading.proofs.Judgements.{limited-after}
 use Rattle.reading.specs.State.{Limited}
 use Rattle.reading.proofs.judge.run.Statement.{statement}
@@ -23,11 +22,13 @@ run-spec =
     μ-loop
     (λ c κs. search needs)  -- refused-requires
     (λ c. search runs depth 20 fits 10000)  -- loop-holds
-    (λ c κs. search needs)  -- next-line-requires
+    (λ c. search needs)  -- sub-then
+    (λ c. search needs)  -- part-then-start
+    (λ c. search needs)  -- part-then-end
     (λ c κs. search needs)  -- then-requires
     (λ c. search runs depth 20 fits 10000)  -- returns
-    (λ c. search needs)  -- add-at
-    (λ c. search line-less)  -- loop-less
-    (λ c. (search limited-after depth 20 fits 10000, run-more (c .before .before .before .before .before .loop .inv .1) (c .before .before .before .before .loop-test .taken) (c .before .before .before .next-line .ensures) (c .before .before .then .ensures) (c .if1 .left)))  -- loop-again
+    (λ c. search (run-inside (c .before .before .before .before .before .before .loop .inv .1) (c .before .before .before .before .before .loop-test .taken) (c .before .before .before .then .ensures) (c .before .if1 .left), needs))  -- add-at
+    (λ c. search run-less depth 20 fits 10000)  -- loop-less
+    (λ c. (search limited-after depth 20 fits 10000, search run-more depth 20 fits 10000))  -- loop-again
     (λ c. search runs depth 20 fits 10000)  -- returns-2
     )

@@ -1,7 +1,7 @@
 -- What kinds::is_header ensures, by the laws of record.
 use borrow.Author.Needs.{needs}
 use Rattle.record.specs.Kinds.{isHeader}
-use Rattle.record.proofs.Coding.{either}
+use Rattle.machine.proofs.Tests.{either}
 use Rattle.record.proofs.kinds.is_header.Statement.{statement}
 use Rattle.record.proofs.kinds.is_header.Tie as tie
 

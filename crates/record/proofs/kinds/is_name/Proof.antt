@@ -1,7 +1,7 @@
 -- What kinds::is_name ensures, by the laws of record.
 use borrow.Author.Needs.{needs}
 use Rattle.record.specs.Kinds.{isName}
-use Rattle.record.proofs.Coding.{either}
+use Rattle.machine.proofs.Tests.{either}
 use Rattle.record.proofs.kinds.is_name.Statement.{statement}
 use Rattle.record.proofs.kinds.is_name.Tie as tie
 

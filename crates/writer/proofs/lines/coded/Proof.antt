@@ -8,7 +8,9 @@ pub coded-spec : {M : Type 1} → statement M
 coded-spec =
     tie.close
     (tie.spec
+    (λ c. search needs)  -- array-read-line
     (λ c. search needs)  -- array-write-line
+    (λ c. search needs)  -- array-read-line-2
     (λ c. search needs)  -- array-write-line-2
     (λ c κs. search needs)  -- code-text-requires
     (λ c. search needs)  -- slice-aggregate-put-bytes
