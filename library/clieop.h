@@ -33,8 +33,9 @@ uint64_t clieop_check(const uint8_t *file, size_t length);
 uint64_t clieop_item(const uint8_t *file, size_t length, uint64_t batch, uint64_t item, uint8_t *texts, size_t room,
                      uint64_t *numbers, size_t count);
 
-/* The file written again without its city records to the front of out, and to `written` how many bytes that are. Where `room` is
- * smaller, the answer is 12 where nothing else applies, and its line is the file's number of lines: 52 bytes for each are room enough. */
+/* The file written again without its city records to the front of out, each line ended by 13 and 10 whatever the file had, and to
+ * `written` how many bytes that are. Where `room` is smaller, the answer is 12 where nothing else applies, and its line is the file's
+ * number of lines: 52 bytes for each are room enough. */
 uint64_t clieop_rewrite(const uint8_t *file, size_t length, uint8_t *out, size_t room, uint64_t *written);
 
 #ifdef __cplusplus

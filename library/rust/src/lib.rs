@@ -105,8 +105,10 @@ fn text<const N: usize>(texts: &[u8; 168], at: usize) -> [u8; N] {
     std::array::from_fn(|i| texts[at + i])
 }
 
-/// The file written again without its city records, to the front of `out`:
-/// how many bytes that are, or the refusal, which leaves `out` as it was.
+/// The file written again without its city records, to the front of `out`,
+/// each line ended by 13 and 10 whatever the file had: how many bytes that
+/// are, 52 for each line that is kept, or the refusal, which leaves `out` as
+/// it was. Where `out` is shorter, that is 12 where nothing else applies.
 pub fn rewrite(file: &[u8], out: &mut [u8]) -> Result<usize, Answer> {
     let mut written = 0;
     let answer = Answer::unpacked(unsafe {

@@ -1,4 +1,4 @@
-//! Answers of document 01, asked through the library.
+//! Answers of document 01 with either line end, asked through the library.
 
 use clieop::{check, item, rewrite, Answer, Item};
 
@@ -23,6 +23,16 @@ fn example() -> Vec<u8> {
     ])
 }
 
+/// Lines that end with 13, 10, ended by 10 alone.
+fn alone(bytes: &[u8]) -> Vec<u8> {
+    bytes.iter().copied().filter(|&byte| byte != 13).collect()
+}
+
+/// The example with 13, 10, and with 10 alone.
+fn examples() -> [Vec<u8>; 2] {
+    [example(), alone(&example())]
+}
+
 fn answer(number: u8, line: u64, column: u64) -> Answer {
     Answer { number, line, column }
 }
@@ -34,7 +44,22 @@ fn filled<const N: usize>(text: &str) -> [u8; N] {
 
 #[test]
 fn the_example_is_accepted() {
-    assert_eq!(check(&example()), answer(0, 9, 0));
+    for (bytes, length) in examples().iter().zip([468, 459]) {
+        assert_eq!(bytes.len(), length);
+        assert_eq!(check(bytes), answer(0, 9, 0));
+    }
+}
+
+#[test]
+fn a_second_line_with_the_other_end_is_broken() {
+    let [bytes, other] = examples();
+    let mixed = [&bytes[..52], &other[51..2 * 51], &bytes[2 * 52..]].concat();
+    let other_mixed = [&other[..51], &bytes[52..2 * 52], &other[2 * 51..]].concat();
+    for bytes in [mixed, other_mixed] {
+        assert_eq!(check(&bytes), answer(1, 2, 0));
+        assert_eq!(item(&bytes, 1, 2), Err(answer(1, 2, 0)));
+        assert_eq!(rewrite(&bytes, &mut []), Err(answer(1, 2, 0)));
+    }
 }
 
 #[test]
@@ -73,21 +98,31 @@ fn a_file_without_cities_is_written_again_byte_for_byte() {
 }
 
 #[test]
+fn what_ends_with_10_alone_is_written_again_with_13_10() {
+    let mut out = vec![7; 468];
+    assert_eq!(rewrite(&alone(&example()), &mut out), Ok(468));
+    assert_eq!(out, example());
+}
+
+#[test]
 fn a_city_record_is_left_out() {
     let bytes = example();
     let city = file(&["0173BUTRECHT"]);
     let with_city = [&bytes[..7 * 52], &city, &bytes[7 * 52..]].concat();
-    let mut out = vec![0; bytes.len()];
-    assert_eq!(rewrite(&with_city, &mut out), Ok(bytes.len()));
-    assert_eq!(out, bytes);
+    for with_city in [alone(&with_city), with_city] {
+        let mut out = vec![0; bytes.len()];
+        assert_eq!(rewrite(&with_city, &mut out), Ok(bytes.len()));
+        assert_eq!(out, bytes);
+    }
 }
 
 #[test]
 fn without_room_it_is_12_and_nothing_is_written() {
-    let bytes = example();
-    let mut out = vec![7; bytes.len() - 1];
-    assert_eq!(rewrite(&bytes, &mut out), Err(answer(12, 9, 0)));
-    assert!(out.iter().all(|&byte| byte == 7));
+    for bytes in examples() {
+        let mut out = [7; 467];
+        assert_eq!(rewrite(&bytes, &mut out), Err(answer(12, 9, 0)));
+        assert_eq!(out, [7; 467]);
+    }
 }
 
 #[test]
@@ -113,8 +148,10 @@ fn the_items_of_the_example_are_handed_out() {
         name: filled("J DE VRIES"),
         ..first
     };
-    assert_eq!(item(&example(), 1, 1), Ok(first));
-    assert_eq!(item(&example(), 1, 2), Ok(second));
+    for bytes in examples() {
+        assert_eq!(item(&bytes, 1, 1), Ok(first));
+        assert_eq!(item(&bytes, 1, 2), Ok(second));
+    }
 }
 
 #[test]
