@@ -11,7 +11,7 @@ use lib.ListN.{length, getD, take, drop, drop-of-length-le, length-drop}
 use lib.Seq.{drop-cons, take-all}
 use lib.Dec.{eqb}
 use Rattle.machine.specs.Lists.{all, same}
-use Rattle.machine.proofs.Base.{unlike}
+use Rattle.machine.proofs.Base.{drop-rest, unlike}
 use Rattle.format.specs.Cutting.{cutOf, nextLine}
 use Rattle.format.specs.Fields.{leftJustified}
 use Rattle.format.specs.declared.Cut.{Cut}
@@ -69,7 +69,7 @@ pub part-in : (s : List ℕ) (a w : ℕ) → take ((a + w) - a) (drop a s) ≡ t
 part-in s a w = rw add-sub-cancel-left
 
 pub part-end : (s : List ℕ) (a w : ℕ) → a ≤ length s → length s - a < w → take (length s - a) (drop a s) ≡ take w (drop a s)
-part-end s a w h l = take-all (length s - a) (drop a s) (rw length-drop (omega arith)) ∙ sym (take-all w (drop a s) (rw length-drop (omega arith)))
+part-end s a w h l = drop-rest s a ∙ sym (take-all w (drop a s) (rw length-drop (omega arith)))
 
 pub part-out : (s : List ℕ) (a w : ℕ) → length s < a → _≡_ {A = List ℕ} [] (take w (drop a s))
 part-out s a w h = let k : length s ≤ a = omega arith in rw (drop-of-length-le s k) (sym (take-all w [] (omega arith)))
@@ -83,7 +83,7 @@ module _ (s : List ℕ) (a : ℕ) where
   next-none h = rw (drop-of-length-le s h) (sym (take-all (cutOf [] .bytes) [] (omega arith)))
 
   pub next-by : {k : Cut} {p : List ℕ} → k ≡ cutOf (take (length s - a) (drop a s)) → p ≡ take (k .bytes) (drop 0 (take (length s - a) (drop a s))) → p ≡ nextLine (drop a s)
-  next-by e h = h ∙ rw (e, take-all (length s - a) (drop a s) (rw length-drop (omega arith)))
+  next-by e h = h ∙ rw (e, drop-rest s a)
 
 pub ruleset nexts = (next-none, next-by)
 

@@ -6,7 +6,7 @@ use mathlib.Core.Option.{Option, none, some}
 use native.Mathlib.Omega.{arith}
 use lib.ListN.{length, take, drop}
 use Rattle.format.specs.Rules.{groupText}
-use Rattle.format.specs.Language.{Rec, Batch, File, batchHeaderRec, batchesRecs, fileTrailerRecs, fileRecs, Ending, endBytes, lineOf, linesOf, Reads}
+use Rattle.format.specs.Language.{Rec, Batch, File, batchHeaderRec, batchesRecs, fileTrailerRecs, Ending, endBytes, lineOf, linesOf, Reads}
 use Rattle.format.specs.Cutting.{afterNext}
 use Rattle.format.specs.declared.Group.{Group}
 use Rattle.format.specs.declared.Group.the-variants.{Payments, Debits}

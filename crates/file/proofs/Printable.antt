@@ -1,18 +1,18 @@
 -- EVERY CHARACTER OF A LINE THAT IS TAKEN IS PRINTABLE: no byte 10 is among its 50. Assumes nothing.
 use Prim.Native.Nat.{ℕ}
-use mathlib.Core.Path.{_≡_, refl, sym, ap, _∙_, subst}
+use mathlib.Core.Path.{_≡_, sym, ap, _∙_, subst}
 use mathlib.Core.List.{List, [], _++_, append-nil}
 use native.Mathlib.Omega.{arith}
-use lib.ListN.{length, take, drop, length-take, drop-of-length-le}
+use lib.ListN.{length, take, drop-of-length-le}
 use lib.Dec.{T}
 use Rattle.machine.specs.Lists.{pick, all}
 use Rattle.format.specs.Fields.{printable, writeFields}
 use Rattle.format.specs.Records.{layout, code}
-use Rattle.format.proofs.Cutting.{cut-bytes, whole-long}
+use Rattle.format.proofs.Cutting.{whole-fifty}
 use Rattle.format.proofs.Link as link
 use Rattle.format.proofs.Printable.{record-printable}
 use Rattle.format.specs.Cutting.{cutOf}
-use Rattle.reading.specs.Step.{judgedLine, cutOff, judgedFirst}
+use Rattle.reading.specs.Step.{judgedLine, withCut, judgedFirst}
 use Rattle.reading.specs.declared.State.{State}
 use Rattle.reading.specs.declared.Judged.{Judged}
 use Rattle.reading.proofs.Verdicts.{Taken, cut-number}
@@ -27,11 +27,11 @@ taken-printable {s} {xs} t = by (line-agrees s l) number
     l = take 50 xs
 
     long : length l ≡ 50
-    long = length-take 50 xs ∙ omega (arith, cut-bytes xs, whole-long (s .before .ending) xs (t .whole))
+    long = whole-fifty (s .before .ending) xs (t .whole)
 
     number : judgedLine s l .number ≡ 0
     number =
-        let e : cutOff (cutOf xs) (judgedLine s l) ≡ _ = rw (t .limits, t .unended, t .whole) at (t .is) in
+        let e : withCut (cutOf xs) (judgedLine s l) ≡ _ = rw (t .limits, t .unended, t .whole) at (t .is) in
         sym (cut-number (cutOf xs) (judgedLine s l)) ∙ ap (λ (j : Judged). j .number) e
 
     by : {j : Judged} → Agrees s l j → j .number ≡ 0 → T (all printable l)

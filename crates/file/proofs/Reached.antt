@@ -12,7 +12,7 @@ use Rattle.format.specs.Cutting.{isOpen, cutOf}
 use Rattle.format.specs.declared.Code.{Code}
 use Rattle.format.specs.declared.Code.the-variants.{Of, Unknown}
 use Rattle.reading.specs.State.{within}
-use Rattle.reading.specs.Step.{refused, judgedLine, cutOff, isDone, judgedFirst, readBy, endedAt, stepAt}
+use Rattle.reading.specs.Step.{refused, judgedLine, withCut, isDone, judgedFirst, readBy, endedAt, stepAt}
 use Rattle.reading.specs.declared.State.{State}
 use Rattle.reading.specs.declared.Judged.{Judged}
 use Rattle.file.specs.Reached.{Reached, at-start, one-step}
@@ -38,7 +38,7 @@ small-first : (s : State) (xs : List ℕ) → within s ≡ true → judgedFirst 
 unfolding judgedFirst pick
 small-first s xs w = rw w (by (isDone s) (isOpen (s .before .ending) (cutOf xs .ending)))
   where
-    by : (p q : Bool) → pick p (refused s 0 11) (pick q (cutOff (cutOf xs) (judgedLine s (take 50 xs))) (refused s 0 1)) .number ≤ 11
+    by : (p q : Bool) → pick p (refused s 0 11) (pick q (withCut (cutOf xs) (judgedLine s (take 50 xs))) (refused s 0 1)) .number ≤ 11
     by true q = omega arith
     by false true = subst (λ n. n ≤ 11) (sym (cut-number (cutOf xs) (judgedLine s (take 50 xs)))) (small-line (line-agrees s (take 50 xs)))
     by false false = omega arith

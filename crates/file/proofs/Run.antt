@@ -24,7 +24,7 @@ use Rattle.format.specs.declared.Group.{Group}
 use Rattle.format.specs.declared.Group.the-variants.{Payments, Debits}
 use Rattle.format.proofs.Reader.{Room, ended, isEnd, step}
 use Rattle.format.proofs.Reader as the
-use Rattle.format.proofs.Cutting.{cut-bytes, cut-own}
+use Rattle.format.proofs.Cutting.{cut-bytes, next-fifty, cut-own}
 use Rattle.format.proofs.Theorem.{readFile}
 use Rattle.record.specs.Faults.{knownGroup}
 use Rattle.reading.specs.declared.Stage.{Stage}
@@ -35,7 +35,7 @@ use Rattle.reading.specs.declared.State.{State}
 use Rattle.reading.specs.declared.Judged.{Judged}
 use Rattle.reading.specs.State.{startState, isLimited, within}
 use Rattle.reading.specs.Order.{isStage}
-use Rattle.reading.specs.Step.{refused, taken, judgedLine, takenOff, cutOff, isDone, judgedFirst, endedAt}
+use Rattle.reading.specs.Step.{refused, taken, judgedLine, takenWith, withCut, isDone, judgedFirst, endedAt}
 use Rattle.reading.specs.Check.{judgedAfter, judgedLines, answerBy, checkOf, restOf}
 use Rattle.reading.proofs.Running.{goingOn, lines-on}
 use Rattle.file.proofs.Places.{phaseIn, phaseOf, contextOf, placeOf, roomOf}
@@ -75,7 +75,7 @@ step-50 : (s : State) (c : List ℕ) → step (placeOf s) (take 50 c) ≡ step (
 step-50 s c = ap₂ (λ c l. the.found (contextOf (s .before) (s .batch)) c l (the.find c (the.choices (phaseOf s)))) (take-take 5 50 c (omega arith)) (ap (take 45) (drop-take 5 45 c) ∙ take-take 45 45 (drop 5 c) (omega arith))
 
 step-next : (s : State) (b : List ℕ) → step (placeOf s) (nextLine b) ≡ step (placeOf s) (take 50 b)
-step-next s b = sym (step-50 s (nextLine b)) ∙ ap (step (placeOf s)) (take-take 50 (cutOf b .bytes) b (omega (arith, cut-bytes b)))
+step-next s b = sym (step-50 s (nextLine b)) ∙ ap (step (placeOf s)) (next-fifty b)
 
 abbrev theRun : ℕ → the.State → EndingSoFar → ℕ → List ℕ → base.Result
 theRun k s e n b = run the.State step isEnd cut turn k s e n b
@@ -108,10 +108,10 @@ module _ (k : ℕ) (ih : (j : Judged) (b : List ℕ) → length b < k → j .num
       let z = ne-eqb number 0 (omega arith) in
       rw (z, z, ne-eqb number 24 (omega arith), e) (no number (suc (s .line)) column h)
 
-  at-line : {j : Judged} → Agrees s (take 50 b) j → Reach (cutOff (cutOf b) j .next) → Says (answered (cutOff (cutOf b) j)) (follow the.State step isEnd cut turn (step (placeOf s) (nextLine b)) (s .line) rest)
-  unfolding cutOff pick
+  at-line : {j : Judged} → Agrees s (take 50 b) j → Reach (withCut (cutOf b) j .next) → Says (answered (withCut (cutOf b) j)) (follow the.State step isEnd cut turn (step (placeOf s) (nextLine b)) (s .line) rest)
+  unfolding withCut pick
   at-line (goes m u e d) r =
-      let j = takenOff (cutOf b) (taken m u) in
+      let j = takenWith (cutOf b) (taken m u) in
       let n : u .line ≡ suc (s .line) = d ∙ omega arith in
       let f : cutOf b .ending ≡ turn (s .before .ending) (nextLine b) = ap (λ (c : Cut). c .ending) (sym (cut-own b)) in
       subst (λ o. Says (answered j) (follow the.State step isEnd cut turn o (s .line) rest)) (sym (step-next s b ∙ e))
@@ -119,11 +119,11 @@ module _ (k : ℕ) (ih : (j : Judged) (b : List ℕ) → length b < k → j .num
       (subst (λ y. Says (answered j) (theRun k (placeOf u) y (u .line) (afterNext b))) f
       (ih j (afterNext b) (simp length-drop (omega (arith, cut-bytes b))) refl r)))
   at-line (stops column number h e) r =
-      subst (λ o. Says (answered (cutOff (cutOf b) (refused s column number))) (follow the.State step isEnd cut turn o (s .line) rest)) (sym (step-next s b ∙ e))
+      subst (λ o. Says (answered (withCut (cutOf b) (refused s column number))) (follow the.State step isEnd cut turn o (s .line) rest)) (sym (step-next s b ∙ e))
       (rw (ne-eqb number 0 (omega arith)) (refusing number column (omega arith)))
 
   line : Judged
-  line = cutOff (cutOf b) (judgedLine s (take 50 b))
+  line = withCut (cutOf b) (judgedLine s (take 50 b))
 
   at-whole : (q : Bool) → Reach (pick q line (refused s 0 1) .next) → Says (answered (pick q line (refused s 0 1))) (onCut k s (cond q (some (nextLine b, afterNext b)) none))
   unfolding line pick

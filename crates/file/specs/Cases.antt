@@ -1,4 +1,4 @@
--- 01's cases that are proved (1 to 11), its example with each line end, and those of 02's request [1], of the definitions that the contracts name, in one table.
+-- 01's cases that are proved (1 to 11), a file without a batch, the example with each line end, and those of 02's request [1], of the definitions that the contracts name, in one table.
 use mathlib.Core.Path.{_≡_}
 use mathlib.Core.Bool.{Bool, true, false}
 use mathlib.Core.List.{List, [], _∷_, _++_}
@@ -11,7 +11,7 @@ use Rattle.machine.specs.Texts.{characters}
 use Rattle.descriptions.specs.Texts.{mergeOf}
 use Rattle.format.specs.Rules.{maxAmount, mostDescriptions, weighted, isEleven, isDate, typeText}
 use Rattle.format.specs.Language.{File, Rec, batchHeaderRec, batchTrailerRec, crlf, endBytes, lineOf, Reads}
-use Rattle.format.specs.Answers.{accepted, brokenLine, wrongForm, wrongValue, wrongAccount, differs, aboveMaximum, endsEarly, refusal, acceptance}
+use Rattle.format.specs.Answers.{accepted, brokenLine, misplacedRecord, wrongForm, wrongValue, wrongAccount, differs, aboveMaximum, endsEarly, refusal, acceptance}
 use Rattle.format.specs.declared.Answer.{Answer}
 use Rattle.format.specs.declared.EndingSoFar.{EndingSoFar}
 use Rattle.format.specs.declared.EndingSoFar.the-variants.{Unknown, CrLf, Lf}
@@ -175,6 +175,10 @@ sequenceCases =
     ∷ line (after Payments 9999) (batch 0 0 0) (header 0) (faultAt 18 wrongValue)
     ∷ []
 
+-- 'one or more batches': the example without its batch
+abbrev pub orderCases : List Case
+orderCases = file (take 52 (example end1310) ++ drop (8 * 52) (example end1310)) (refusal misplacedRecord 2 1) ∷ []
+
 -- 10, and the example with each line end
 abbrev pub fileCases : List Case
 fileCases =
@@ -201,4 +205,4 @@ endingCases =
     ∷ []
 
 abbrev pub cases : List (List Case)
-cases = accountCases ∷ amountCases ∷ sumCases ∷ dateCases ∷ descriptionCases ∷ sequenceCases ∷ fileCases ∷ endingCases ∷ []
+cases = accountCases ∷ amountCases ∷ sumCases ∷ dateCases ∷ descriptionCases ∷ sequenceCases ∷ orderCases ∷ fileCases ∷ endingCases ∷ []

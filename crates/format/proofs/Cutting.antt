@@ -6,7 +6,7 @@ use mathlib.Core.Option.{none, some}
 use Prim.Native.Nat.{ℕ, zero, suc, _+_, _-_, _≤_, _<_}
 use native.Mathlib.Omega.{arith}
 use lib.ListN.{length, getD, take, drop, length-take, length-drop, length-append, take-append-drop, drop-of-length-le}
-use lib.Seq.{take-all, take-at, drop-at, take-take, take-append-le, drop-drop, drop-cons, getD-take, length-take-le}
+use lib.Seq.{take-all, take-at, drop-at, take-take, take-append-le, drop-drop, drop-cons, length-take-le}
 use lib.Dec.{eqb}
 use borrow.Author.Tests.{ne-eqb}
 use Rattle.machine.specs.Lists.{pick, same}
@@ -30,19 +30,16 @@ abbrev pub Open : EndingSoFar → Ending → Type 0
 Open e z = isOpen e (endingIs z) ≡ true
 
 pub ending-open : (z : Ending) → Open (endingIs z) z
-unfolding isOpen
 ending-open crlf = refl
 ending-open lf = refl
 
 pub ending-only : (z y : Ending) → Open (endingIs z) y → z ≡ y
-unfolding isOpen
 ending-only crlf crlf o = refl
 ending-only lf lf o = refl
 ending-only crlf lf o = never o
 ending-only lf crlf o = never o
 
 pub all-open : (z : Ending) → Open noEnding z
-unfolding isOpen
 all-open crlf = refl
 all-open lf = refl
 
@@ -52,14 +49,12 @@ anEnding CrLf = crlf
 anEnding Lf = lf
 
 pub is-open : (e : EndingSoFar) → Open e (anEnding e)
-unfolding isOpen
 is-open Unknown = refl
 is-open CrLf = refl
 is-open Lf = refl
 
 -- none is no end
 none-closed : (e : EndingSoFar) → isOpen e Unknown ≡ true → ⊥
-unfolding isOpen
 none-closed e o = never o
 
 -- bytes tell their end
@@ -80,7 +75,7 @@ abbrev pub cutBy : Ending → Cut
 cutBy z = record { bytes = 50 + length (endBytes z); ending = endingIs z }
 
 -- a line with one of these ends, or none
-pub data CutView (b : List ℕ) : Cut → Type 0 where
+data CutView (b : List ℕ) : Cut → Type 0 where
   ended : (z : Ending) → Line (endBytes z) (take (cutBy z .bytes) b) → CutView b (cutBy z)
   broken : CutView b brokenCut
 
@@ -149,6 +144,10 @@ whole-line e b h = on (cut-view b) refl h
 
 -- ## What follows: the first line and the rest
 
+-- its 50 characters
+pub next-fifty : (b : List ℕ) → take 50 (nextLine b) ≡ take 50 b
+next-fifty b = take-take 50 (cutOf b .bytes) b (omega (arith, cut-bytes b))
+
 pub cut-own : (b : List ℕ) → cutOf (nextLine b) ≡ cutOf b
 cut-own b = same-cut (nextLine b) b (take-take (cutOf b .bytes) (cutOf b .bytes) b (omega arith))
 
@@ -157,13 +156,16 @@ whole-long e b h =
     let w = whole-line e b h in
     omega (arith, ap (λ (k : Cut). k .bytes) (w .by), w .is .long, length-take (cutOf b .bytes) b)
 
+pub whole-fifty : (e : EndingSoFar) (b : List ℕ) → isOpen e (cutOf b .ending) ≡ true → length (take 50 b) ≡ 50
+whole-fifty e b h = length-take-le 50 b (omega (arith, whole-long e b h, cut-bytes b))
+
 -- its characters and its end
 pub whole-is : (e : EndingSoFar) (b : List ℕ) → isOpen e (cutOf b .ending) ≡ true → (z : Ending) → cutOf b .ending ≡ endingIs z → nextLine b ≡ take 50 b ++ endBytes z
 whole-is e b h z i =
     let w = whole-line e b h in
     let y : w .z ≡ z = ending-only (w .z) z (subst (λ x. isOpen x (endingIs z) ≡ true) (sym i ∙ ap (λ (k : Cut). k .ending) (w .by)) (ending-open z)) in
     sym (take-append-drop 50 (nextLine b))
-    ∙ ap₂ _++_ (take-take 50 (cutOf b .bytes) b (omega (arith, cut-bytes b))) (w .is .ended ∙ ap endBytes y)
+    ∙ ap₂ _++_ (next-fifty b) (w .is .ended ∙ ap endBytes y)
 
 -- whatever follows it
 pub whole-next : (e : EndingSoFar) (c r : List ℕ) → isOpen e (cutOf c .ending) ≡ true → nextLine (c ++ r) ≡ nextLine c
@@ -178,7 +180,7 @@ module _ (z : Ending) (c : List ℕ) (h : Line (endBytes z) c) (r : List ℕ) wh
   line-first : cutOf (c ++ r) ≡ cutBy z
   line-first = end-cut z (c ++ r) (subst (Line (endBytes z)) (sym first-is) h)
 
-  pub next-is : nextLine (c ++ r) ≡ c
+  next-is : nextLine (c ++ r) ≡ c
   next-is = ap (λ (k : Cut). take (k .bytes) (c ++ r)) line-first ∙ first-is
 
   pub after-is : afterNext (c ++ r) ≡ r
@@ -303,18 +305,10 @@ count-lines (one-more {e = e} {b = b} c r h x) =
 -- ## The code's cut
 
 byte-51 : (b : List ℕ) → 51 ≤ length b → drop 50 (take 51 b) ≡ getD b 50 0 ∷ []
-byte-51 b h =
-    let l = length-take-le 51 b h in
-    drop-cons (take 51 b) 50 0 (omega arith)
-    ∙ ap₂ {C = List ℕ} (λ x r. x ∷ r) (getD-take 51 b 50 0 (omega arith)) (drop-of-length-le (take 51 b) {i = 51} (omega arith))
+byte-51 b h = drop-take 50 1 b ∙ ap (take 1) (drop-cons b 50 0 h)
 
 bytes-51-52 : (b : List ℕ) → 52 ≤ length b → drop 50 (take 52 b) ≡ getD b 50 0 ∷ getD b 51 0 ∷ []
-bytes-51-52 b h =
-    let l = length-take-le 52 b h in
-    drop-cons (take 52 b) 50 0 (omega arith)
-    ∙ ap₂ {C = List ℕ} (λ x r. x ∷ r) (getD-take 52 b 50 0 (omega arith))
-    (drop-cons (take 52 b) 51 0 (omega arith)
-    ∙ ap₂ {C = List ℕ} (λ x r. x ∷ r) (getD-take 52 b 51 0 (omega arith)) (drop-of-length-le (take 52 b) {i = 52} (omega arith)))
+bytes-51-52 b h = drop-take 50 2 b ∙ ap (take 2) (drop-cons b 50 0 (omega arith) ∙ ap (λ (r : List ℕ). getD b 50 0 ∷ r) (drop-cons b 51 0 h))
 
 -- fewer bytes than an end has are none
 too-short : (z : Ending) (b : List ℕ) → length b < 50 + length (endBytes z) → endsIn z (take (cutBy z .bytes) b) ≡ false

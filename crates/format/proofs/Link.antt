@@ -181,7 +181,7 @@ module _ {p : Phase} {k : Kind} (pl : Place p k) (s : Context) (x : Fields k) (o
   pub line-length : (z : List ℕ) → length (lineOf z (k, x)) ≡ 50 + length z
   line-length z = simp length-append (omega (arith, body-length, line-widths k .0))
 
-  line-code : (z : List ℕ) → take 5 (lineOf z (k, x)) ≡ code k
+  pub line-code : (z : List ℕ) → take 5 (lineOf z (k, x)) ≡ code k
   line-code z = take-at (code k) (writeFields (layout k) x ++ z) 5 (line-widths k .0)
 
   line-rest : (z : List ℕ) → drop 5 (lineOf z (k, x)) ≡ writeFields (layout k) x ++ z
@@ -193,8 +193,18 @@ module _ {p : Phase} {k : Kind} (pl : Place p k) (s : Context) (x : Fields k) (o
   pub line-end : (z : List ℕ) → drop 50 (lineOf z (k, x)) ≡ z
   line-end z = sym (drop-drop 45 5 (lineOf z (k, x))) ∙ ap (drop 45) (line-rest z) ∙ drop-at (writeFields (layout k) x) z 45 body-length
 
+  fifty : length (code k ++ writeFields (layout k) x) ≡ 50
+  fifty = simp length-append (omega (arith, body-length, line-widths k .0))
+
+  -- its characters, with another end
+  pub line-again : (z y : List ℕ) → take 50 (lineOf z (k, x)) ++ y ≡ lineOf y (k, x)
+  line-again z y =
+      ap (λ l. take 50 l ++ y) (sym (append-assoc (code k) (writeFields (layout k) x) z))
+      ∙ ap (λ l. l ++ y) (take-at (code k ++ writeFields (layout k) x) z 50 fifty)
+      ∙ append-assoc (code k) (writeFields (layout k) x) y
+
   pub line-after : (z r : List ℕ) → drop 50 (lineOf z (k, x) ++ r) ≡ z ++ r
-  line-after z r = ap (drop 50) parts ∙ drop-at (code k ++ writeFields (layout k) x) (z ++ r) 50 (simp length-append (omega (arith, body-length, line-widths k .0)))
+  line-after z r = ap (drop 50) parts ∙ drop-at (code k ++ writeFields (layout k) x) (z ++ r) 50 fifty
     where
       parts : lineOf z (k, x) ++ r ≡ (code k ++ writeFields (layout k) x) ++ (z ++ r)
       parts = simp append-assoc refl

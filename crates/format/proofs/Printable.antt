@@ -1,5 +1,5 @@
 -- EVERY CHARACTER OF A RECORD'S LINE IS PRINTABLE: none of the 50 is a byte 10 or 13. Assumes nothing.
-use mathlib.Core.Bool.{Bool, _&&_, _||_}
+use mathlib.Core.Bool.{Bool, _||_}
 use mathlib.Core.List.{List, [], _∷_, _++_}
 use Prim.Native.Nat.{ℕ, _≤_}
 use native.Mathlib.Omega.{arith}
@@ -8,7 +8,6 @@ use Rattle.machine.specs.Lists.{all, isDigit, isSpace}
 use Rattle.machine.proofs.Base.{and-l, and-r, and-i}
 use Rattle.format.specs.Fields.{Field, numeric, filled, optional, free, filler, printable, leftJustified, wellFormed, writeField, Values, writeFields, Fits}
 use Rattle.format.specs.Records.{layout, code, Fields}
-use Rattle.format.specs.Language.{lineOf}
 use Rattle.format.specs.declared.Kind.{Kind}
 use Rattle.format.proofs.Every.{every}
 use Rattle.format.proofs.Checks.{field-read}

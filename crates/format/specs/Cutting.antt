@@ -1,10 +1,9 @@
 -- The lines of a file: 50 characters and then the end, which the first line fixes for all.
-use mathlib.Core.Bool.{Bool, cond, not, _&&_, _||_}
+use mathlib.Core.Bool.{Bool, true, false, cond}
 use mathlib.Core.List.{List, [], _∷_}
 use mathlib.Core.Option.{none, some}
 use Prim.Native.Nat.{ℕ, zero, suc, _-_}
 use lib.ListN.{take, drop}
-use lib.Dec.{eqb}
 use Rattle.machine.specs.Lists.{pick, same}
 use Rattle.machine.specs.Lines.{Split, front, Exactly}
 use Rattle.format.specs.Language.{Ending, crlf, lf, endBytes}
@@ -12,18 +11,15 @@ pub use Rattle.format.specs.declared.EndingSoFar.{EndingSoFar}
 use Rattle.format.specs.declared.EndingSoFar.the-variants.{Unknown, CrLf, Lf}
 use Rattle.format.specs.declared.Cut.{Cut}
 
--- how lines end (the declared type): unknown before the first line, and of a line with neither end
-abbrev pub endingNumber : EndingSoFar → ℕ
-endingNumber Unknown = 0
-endingNumber CrLf = 1
-endingNumber Lf = 2
-
-abbrev pub isEnding : EndingSoFar → EndingSoFar → Bool
-isEnding a b = eqb (endingNumber a) (endingNumber b)
-
--- a line that ends so may follow: 'The first line fixes which, and the other ending later is a broken line'
-unfoldable pub isOpen : EndingSoFar → EndingSoFar → Bool
-isOpen e line = not (isEnding line Unknown) && (isEnding e Unknown || isEnding e line)
+-- after lines that end so, a line that ends so may follow: 'The first line fixes which, and the other ending later is a broken line'
+abbrev pub isOpen : EndingSoFar → EndingSoFar → Bool
+isOpen e Unknown = false
+isOpen Unknown CrLf = true
+isOpen Unknown Lf = true
+isOpen CrLf CrLf = true
+isOpen CrLf Lf = false
+isOpen Lf CrLf = false
+isOpen Lf Lf = true
 
 -- after 50 characters there is this end, and no more
 abbrev pub endsIn : Ending → List ℕ → Bool

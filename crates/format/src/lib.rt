@@ -2,7 +2,8 @@
 // answers and limits.
 ghost use mathlib.Core.Path.{_≡_};
 ghost use Rattle.format.specs.Answers.{refusal, acceptance};
-ghost use Rattle.format.specs.Cutting.{endingNumber, isEnding, isOpen, brokenCut, cutOf};
+ghost use Rattle.format.specs.Cutting.{isOpen, brokenCut, cutOf};
+ghost use Rattle.format.specs.declared.EndingSoFar.the-variants.{CrLf, Lf};
 ghost use Rattle.format.specs.Rules.{mostDescriptions};
 
 pub mod codes;
@@ -144,20 +145,24 @@ pub fn most_descriptions(reference: bool) -> u64
     MAX_DESCRIPTIONS
 }
 
-fn ending_number(e: EndingSoFar) -> u8
-    ensures { λ r. ⌜ r ≡ endingNumber e ⌝ }
+fn is_open_to_13_10(e: EndingSoFar) -> bool
+    ensures { λ r. ⌜ r ≡ isOpen e CrLf ⌝ }
 {
     match e {
-        EndingSoFar::Unknown => 0,
-        EndingSoFar::CrLf => 1,
-        EndingSoFar::Lf => 2,
+        EndingSoFar::Unknown => true,
+        EndingSoFar::CrLf => true,
+        EndingSoFar::Lf => false,
     }
 }
 
-fn is_ending(a: EndingSoFar, b: EndingSoFar) -> bool
-    ensures { λ r. ⌜ r ≡ isEnding a b ⌝ }
+fn is_open_to_10(e: EndingSoFar) -> bool
+    ensures { λ r. ⌜ r ≡ isOpen e Lf ⌝ }
 {
-    ending_number(a) == ending_number(b)
+    match e {
+        EndingSoFar::Unknown => true,
+        EndingSoFar::CrLf => false,
+        EndingSoFar::Lf => true,
+    }
 }
 
 impl EndingSoFar {
@@ -165,8 +170,11 @@ impl EndingSoFar {
     pub fn is_open(self, line: EndingSoFar) -> bool
         ensures { λ r. ⌜ r ≡ isOpen self line ⌝ }
     {
-        !is_ending(line, EndingSoFar::Unknown)
-            & (is_ending(self, EndingSoFar::Unknown) | is_ending(self, line))
+        match line {
+            EndingSoFar::Unknown => false,
+            EndingSoFar::CrLf => is_open_to_13_10(self),
+            EndingSoFar::Lf => is_open_to_10(self),
+        }
     }
 }
 

@@ -2,16 +2,15 @@
 use Prim.Native.Nat.{ℕ, _+_}
 use mathlib.Core.Path.{_≡_, refl, sym, ap, _∙_}
 use mathlib.Core.List.{List, _++_}
-use native.Mathlib.Omega.{arith}
 use lib.ListN.{length, take, length-append}
-use lib.Seq.{take-at, drop-at, length-take-le}
+use lib.Seq.{take-at, drop-at}
 use Rattle.format.specs.Language.{Ending, endBytes}
 use Rattle.format.specs.Cutting.{isOpen}
 use Rattle.format.specs.Records.{Fields}
 use Rattle.format.specs.declared.Cut.{Cut}
 use Rattle.format.specs.declared.EndingSoFar.{EndingSoFar}
 use Rattle.format.specs.declared.Kind.{Kind}
-use Rattle.format.proofs.Cutting.{Open, Line, cut-bytes, line-cut, whole-long}
+use Rattle.format.proofs.Cutting.{Open, Line, line-cut, whole-fifty}
 use Rattle.format.proofs.Every.{every}
 use Rattle.record.specs.Kinds.{codeOf}
 use Rattle.record.specs.Faults.{faultOf}
@@ -26,15 +25,15 @@ use Rattle.reading.proofs.Verdicts.{takenAs, Taken, taken-first}
 
 -- ## What does not look at the ending
 
-pub within-ended : (e : EndingSoFar) (s : State) → within (withEnding e s) ≡ within s
+within-ended : (e : EndingSoFar) (s : State) → within (withEnding e s) ≡ within s
 unfolding within isLimited
 within-ended e s = refl
 
-pub allowed-ended : (e : EndingSoFar) (s : State) (k : Kind) → allowed (withEnding e s) k ≡ allowed s k
+allowed-ended : (e : EndingSoFar) (s : State) (k : Kind) → allowed (withEnding e s) k ≡ allowed s k
 unfolding allowed
 allowed-ended e s = every (λ k. allowed (withEnding e s) k ≡ allowed s k) refl refl refl refl refl refl refl refl refl refl refl refl refl refl
 
-pub fault-ended : (e : EndingSoFar) (p : Before) (b : Batch) (k : Kind) (line : List ℕ) → faultOf (beforeEnding e p) b k line ≡ faultOf p b k line
+fault-ended : (e : EndingSoFar) (p : Before) (b : Batch) (k : Kind) (line : List ℕ) → faultOf (beforeEnding e p) b k line ≡ faultOf p b k line
 unfolding faultOf
 fault-ended e p b k line = every (λ k. faultOf (beforeEnding e p) b k line ≡ faultOf p b k line) refl refl refl refl refl refl refl refl refl refl refl refl refl refl k
 
@@ -49,7 +48,7 @@ endedWith z xs = take 50 xs ++ endBytes z
 
 module _ {s : State} {xs : List ℕ} (t : Taken s xs) (z : Ending) where
   fifty : length (take 50 xs) ≡ 50
-  fifty = length-take-le 50 xs (omega (arith, whole-long (s .before .ending) xs (t .whole), cut-bytes xs))
+  fifty = whole-fifty (s .before .ending) xs (t .whole)
 
   pub fifty-first : take 50 (endedWith z xs) ≡ take 50 xs
   fifty-first = take-at (take 50 xs) (endBytes z) 50 fifty

@@ -31,7 +31,7 @@ use Rattle.record.proofs.ItemFaults.{transaction-read, transaction-refused, tra
 use Rattle.reading.specs.State.{Limited, within}
 use Rattle.reading.specs.Bounds.{Small}
 use Rattle.reading.specs.Order.{isStage, mayFix, mayText, mayDescribe, allowed}
-use Rattle.reading.specs.Step.{nextFor, paid, refused, taken, judgedBy, judgedAs, judgedKind, judgedCode, judgedLine, withEnding, cutOff, isDone, judgedFirst}
+use Rattle.reading.specs.Step.{nextFor, paid, refused, taken, judgedBy, judgedAs, judgedKind, judgedCode, judgedLine, withEnding, withCut, isDone, judgedFirst}
 use Rattle.reading.specs.declared.Stage.the-variants.{Opened}
 use Rattle.reading.specs.declared.State.{State}
 use Rattle.reading.specs.declared.Judged.{Judged}
@@ -110,12 +110,12 @@ pub ruleset codes = (code-known, code-unknown)
 -- ## The first line
 
 module _ (c : Cut) (j : Judged) where
-  pub off-refused : (j .number ≡ 0 → ⊥) → j ≡ cutOff c j
-  unfolding cutOff pick
+  pub off-refused : (j .number ≡ 0 → ⊥) → j ≡ withCut c j
+  unfolding withCut pick
   off-refused z = rw (ne-eqb _ _ z)
 
-  pub off-taken : {u : State} → j .number ≡ 0 → u ≡ withEnding (c .ending) (j .next) → _≡_ {A = Judged} (record { number = j .number; column = j .column; bytes = c .bytes; code = j .code; next = u }) (cutOff c j)
-  unfolding cutOff pick
+  pub off-taken : {u : State} → j .number ≡ 0 → u ≡ withEnding (c .ending) (j .next) → _≡_ {A = Judged} (record { number = j .number; column = j .column; bytes = c .bytes; code = j .code; next = u }) (withCut c j)
+  unfolding withCut pick
   off-taken z e = rw (e, eq-eqb _ _ z)
 
 module _ (s : State) (xs : List ℕ) where
@@ -129,9 +129,9 @@ module _ (s : State) (xs : List ℕ) where
     first-done t h = rw (w, ← e, t) h
 
     module _ (t : d ≡ false) {k : Cut} (i : k ≡ cutOf xs) {o : Bool} (f : o ≡ isOpen (s .before .ending) (k .ending)) where
-      pub first-line : {x j : Judged} {p : List ℕ} → o ≡ true → p ≡ take 50 xs → j ≡ judgedLine s p → x ≡ cutOff k j → x ≡ judgedFirst s xs
+      pub first-line : {x j : Judged} {p : List ℕ} → o ≡ true → p ≡ take 50 xs → j ≡ judgedLine s p → x ≡ withCut k j → x ≡ judgedFirst s xs
       unfolding judgedFirst pick
-      first-line u q g h = rw (w, ← e, t, ← i, ← f, u) (h ∙ ap (cutOff k) (g ∙ ap (judgedLine s) q))
+      first-line u q g h = rw (w, ← e, t, ← i, ← f, u) (h ∙ ap (withCut k) (g ∙ ap (judgedLine s) q))
 
       pub first-broken : {x : Judged} → o ≡ false → x ≡ refused s 0 1 → x ≡ judgedFirst s xs
       unfolding judgedFirst pick

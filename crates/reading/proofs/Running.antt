@@ -5,11 +5,12 @@ use mathlib.Core.List.{List}
 use native.Mathlib.Omega.{arith}
 use borrow.Author.Tests.{eq-eqb, ne-eqb}
 use lib.ListN.{length, take, drop, length-drop}
-use lib.Seq.{take-take, take-all, drop-drop}
+use lib.Seq.{drop-drop}
 use lib.Dec.{eqb}
 use Rattle.machine.specs.Lists.{pick}
+use Rattle.machine.proofs.Base.{drop-rest}
 use Rattle.format.specs.Cutting.{cutOf, nextLine, afterNext, linesIn}
-use Rattle.format.proofs.Cutting.{cut-bytes, cut-own, whole-long, lines-first, lines-none}
+use Rattle.format.proofs.Cutting.{cut-bytes, next-fifty, cut-own, whole-long, lines-first, lines-none}
 use Rattle.reading.specs.State.{Limited}
 use Rattle.reading.specs.Step.{refused, judgedFirst}
 use Rattle.reading.specs.Check.{judgedAfter}
@@ -20,7 +21,7 @@ use Rattle.reading.proofs.Verdicts.{Taken, takes}
 -- the first line is judged by its own bytes alone
 pub first-own : (s : State) (xs : List ℕ) → judgedFirst s (nextLine xs) ≡ judgedFirst s xs
 unfolding judgedFirst
-first-own s xs = rw (cut-own xs, take-take 50 (cutOf xs .bytes) xs (omega (arith, cut-bytes xs)))
+first-own s xs = rw (cut-own xs, next-fifty xs)
 
 -- what the first line comes to, and the lines after it
 abbrev pub goingOn : Judged → List (List ℕ) → Judged
@@ -49,16 +50,12 @@ pub run-all : {start : State} {bytes : List ℕ} {last : Judged} {at : ℕ} → 
 unfolding judgedAfter
 run-all {bytes = bytes} {last} {at} r l = sym (ap (judgedAfter last) (lines-none bytes at l)) ∙ r .rest
 
--- bytes from a place on
-pub from-there : (bytes : List ℕ) (at : ℕ) → take (length bytes - at) (drop at bytes) ≡ drop at bytes
-from-there bytes at = take-all (length bytes - at) (drop at bytes) (rw length-drop (omega arith))
-
 module _ {start : State} {bytes : List ℕ} {last : Judged} {at : ℕ} {j : Judged} (r : Running start bytes last at) (l : at < length bytes) (e : j ≡ judgedFirst (last .next) (take (length bytes - at) (drop at bytes))) where
   left : 0 < length (drop at bytes)
   left = rw length-drop (omega arith)
 
   is-first : j ≡ judgedFirst (last .next) (drop at bytes)
-  is-first = e ∙ ap (judgedFirst (last .next)) (from-there bytes at)
+  is-first = e ∙ ap (judgedFirst (last .next)) (drop-rest bytes at)
 
   one : goingOn j (linesIn (afterNext (drop at bytes))) ≡ judgedAfter (refused start 0 0) (linesIn bytes)
   one = ap (λ i. goingOn i (linesIn (afterNext (drop at bytes)))) is-first ∙ sym (lines-on last (drop at bytes) left) ∙ r .rest

@@ -8,7 +8,6 @@ use borrow.Author.Tests.{eq-eqb, eqb-true}
 use lib.Dec.{T, eqb}
 use Rattle.machine.specs.Lists.{pick}
 use Rattle.format.specs.Answers.{refusal, acceptance}
-use Rattle.format.specs.declared.Answer.{Answer}
 use Rattle.format.specs.Cutting.{nextLine, afterNext, linesIn}
 use Rattle.format.specs.declared.Kind.{Kind}
 use Rattle.format.proofs.Cutting.{Lined, no-line, one-line, lined}

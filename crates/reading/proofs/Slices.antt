@@ -6,15 +6,15 @@ use mathlib.Core.Bool.{Bool, true, false}
 use native.Mathlib.Omega.{arith}
 use borrow.Author.Tests.{eq-eqb, ne-eqb}
 use lib.ListN.{length, take}
-use lib.Seq.{take-take, take-all}
+use lib.Seq.{take-all}
 use lib.Dec.{eqb}
 use Rattle.machine.specs.Lists.{pick}
 use Rattle.format.specs.declared.Answer.{Answer}
 use Rattle.format.specs.Cutting.{cutOf, nextLine, afterNext, linesFrom, linesIn}
-use Rattle.format.proofs.Cutting.{cut-bytes, line-inside, lines-first}
+use Rattle.format.proofs.Cutting.{next-fifty, line-inside, lines-first}
 use Rattle.record.specs.declared.Record.{Record}
 use Rattle.reading.specs.State.{within}
-use Rattle.reading.specs.Step.{refused, taken, judgedFirst, readBy, endedAt, stepAt}
+use Rattle.reading.specs.Step.{refused, taken, readBy, endedAt, stepAt}
 use Rattle.reading.specs.Check.{judgedAfter, judgedLines, answerBy, restOf, recordsAfter}
 use Rattle.reading.specs.declared.State.{State}
 use Rattle.reading.specs.declared.Judged.{Judged}
@@ -63,7 +63,7 @@ pub step-own : (s : State) (xs : List ℕ) → stepAt s (nextLine xs) ≡ stepAt
 step-own s [] = ap (stepAt s) (take-all (cutOf [] .bytes) [] (omega arith))
 step-own s (x ∷ xs) =
     step-first s (nextLine (x ∷ xs)) (line-inside (x ∷ xs) 0 (omega arith) refl .0)
-    ∙ ap₂ (λ l j. readBy l (j .code) j) (take-take 50 (cutOf (x ∷ xs) .bytes) (x ∷ xs) (omega (arith, cut-bytes (x ∷ xs)))) (first-own s (x ∷ xs))
+    ∙ ap₂ (λ l j. readBy l (j .code) j) (next-fifty (x ∷ xs)) (first-own s (x ∷ xs))
     ∙ sym (step-first s (x ∷ xs) (omega arith))
 
 -- ## Its records

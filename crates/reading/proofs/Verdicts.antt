@@ -20,7 +20,7 @@ use Rattle.record.specs.Faults.{fieldsOf, faultOf}
 use Rattle.record.specs.declared.Fault.{Fault}
 use Rattle.reading.specs.State.{within}
 use Rattle.reading.specs.Order.{allowed}
-use Rattle.reading.specs.Step.{nextFor, refused, taken, judgedAs, judgedKind, judgedCode, judgedLine, takenOff, cutOff, isDone, judgedFirst}
+use Rattle.reading.specs.Step.{nextFor, refused, taken, judgedAs, judgedKind, judgedCode, judgedLine, takenWith, withCut, isDone, judgedFirst}
 use Rattle.reading.specs.declared.State.{State}
 use Rattle.reading.specs.declared.Judged.{Judged}
 
@@ -55,25 +55,25 @@ verdict s line = by-code s line (codeOf (take 5 line)) refl
 -- ## A first line
 
 -- the cut changes no answer
-pub cut-number : (c : Cut) (j : Judged) → cutOff c j .number ≡ j .number
-unfolding cutOff pick
+pub cut-number : (c : Cut) (j : Judged) → withCut c j .number ≡ j .number
+unfolding withCut pick
 cut-number c j = by (eqb (j .number) 0)
   where
-    by : (q : Bool) → pick q (takenOff c j) j .number ≡ j .number
+    by : (q : Bool) → pick q (takenWith c j) j .number ≡ j .number
     by true = refl
     by false = refl
 
 -- what a line of a kind comes to, where it is taken
 abbrev pub takenAs : State → Kind → List ℕ → Judged
-takenAs s k xs = takenOff (cutOf xs) (taken k (nextFor s k (fieldsOf k (take 50 xs))))
+takenAs s k xs = takenWith (cutOf xs) (taken k (nextFor s k (fieldsOf k (take 50 xs))))
 
 pub data First (s : State) (xs : List ℕ) : Judged → Type 0 where
   beyond : within s ≡ false → First s xs (refused s 0 24)
   halted : within s ≡ true → (c n : ℕ) → (n ≡ 0 → ⊥) → First s xs (refused s c n)
   moved : within s ≡ true → (k : Kind) → codeOf (take 5 (take 50 xs)) ≡ Of k → allowed s k ≡ true → faultOf (s .before) (s .batch) k (take 50 xs) .number ≡ 0 → First s xs (takenAs s k xs)
 
-of-verdict : {s : State} {xs : List ℕ} {j : Judged} → within s ≡ true → Verdict s (take 50 xs) j → First s xs (cutOff (cutOf xs) j)
-unfolding cutOff pick
+of-verdict : {s : State} {xs : List ℕ} {j : Judged} → within s ≡ true → Verdict s (take 50 xs) j → First s xs (withCut (cutOf xs) j)
+unfolding withCut pick
 of-verdict w (stopped c n z) = rw (ne-eqb n 0 z) (halted w c n z)
 of-verdict w (went k c a f) = moved w k c a f
 
@@ -82,7 +82,7 @@ unfolding judgedFirst pick
 first s xs = by (within s) refl
   where
     line : Judged
-    line = cutOff (cutOf xs) (judgedLine s (take 50 xs))
+    line = withCut (cutOf xs) (judgedLine s (take 50 xs))
 
     whole : within s ≡ true → (q : Bool) → First s xs (pick q line (refused s 0 1))
     whole w true = of-verdict w (verdict s (take 50 xs))
@@ -112,7 +112,7 @@ parts : (s : State) (xs : List ℕ) → judgedFirst s xs .number ≡ 0 → (isDo
 unfolding judgedFirst pick
 parts s xs z = on (within s) (isDone s) (isOpen (s .before .ending) (cutOf xs .ending)) z
   where
-    on : (a b c : Bool) → pick a (pick b (refused s 0 11) (pick c (cutOff (cutOf xs) (judgedLine s (take 50 xs))) (refused s 0 1))) (refused s 0 24) .number ≡ 0 → (b ≡ false) × (c ≡ true)
+    on : (a b c : Bool) → pick a (pick b (refused s 0 11) (pick c (withCut (cutOf xs) (judgedLine s (take 50 xs))) (refused s 0 1))) (refused s 0 24) .number ≡ 0 → (b ≡ false) × (c ≡ true)
     on true true c z = absurd (omega arith)
     on true false true z = (refl, refl)
     on true false false z = absurd (omega arith)
@@ -129,5 +129,5 @@ takes s xs z = of-first s xs (judgedFirst s xs) (first s xs) refl (parts s xs z)
 -- and back: a line with these facts is taken
 pub taken-first : (s : State) (xs : List ℕ) → within s ≡ true → isDone s ≡ false → isOpen (s .before .ending) (cutOf xs .ending) ≡ true → (k : Kind) → codeOf (take 5 (take 50 xs)) ≡ Of k → allowed s k ≡ true
     → faultOf (s .before) (s .batch) k (take 50 xs) .number ≡ 0 → judgedFirst s xs ≡ takenAs s k xs
-unfolding judgedFirst judgedLine judgedKind judgedAs cutOff pick
+unfolding judgedFirst judgedLine judgedKind judgedAs withCut pick
 taken-first s xs a b c k d e f = rw (a, b, c, d, e, eq-eqb _ _ f)

@@ -122,7 +122,7 @@ nextFor s FileTrailer x = moved s Done
 abbrev pub refused : State → ℕ → ℕ → Judged
 refused s column number = record { number = number; column = column; bytes = 0; code = Unknown; next = s }
 
--- by its characters alone: the cut adds the bytes that it took and the end that it fixed (`cutOff`)
+-- by its characters alone: the cut adds the bytes that it took and the end that it fixed (`withCut`)
 abbrev pub taken : Kind → State → Judged
 taken k next = record { number = accepted; column = 0; bytes = 0; code = Of k; next = next }
 
@@ -152,11 +152,11 @@ abbrev pub withEnding : EndingSoFar → State → State
 withEnding e s = record { line = s .line; before = beforeEnding e (s .before); batch = s .batch; stage = s .stage; item = s .item }
 
 -- what is taken of bytes that are cut so: a line that is accepted takes its bytes, and fixes the end
-abbrev pub takenOff : Cut → Judged → Judged
-takenOff c j = record { number = j .number; column = j .column; bytes = c .bytes; code = j .code; next = withEnding (c .ending) (j .next) }
+abbrev pub takenWith : Cut → Judged → Judged
+takenWith c j = record { number = j .number; column = j .column; bytes = c .bytes; code = j .code; next = withEnding (c .ending) (j .next) }
 
-unfoldable pub cutOff : Cut → Judged → Judged
-cutOff c j = pick (eqb (j .number) accepted) (takenOff c j) j
+unfoldable pub withCut : Cut → Judged → Judged
+withCut c j = pick (eqb (j .number) accepted) (takenWith c j) j
 
 abbrev pub isDone : State → Bool
 isDone s = isStage (s .stage) Done
@@ -166,7 +166,7 @@ unfoldable pub judgedFirst : State → List ℕ → Judged
 judgedFirst s xs =
     pick (within s)
     (pick (isDone s) (refused s 0 afterTrailer)
-    (pick (isOpen (s .before .ending) (cutOf xs .ending)) (cutOff (cutOf xs) (judgedLine s (take 50 xs)))
+    (pick (isOpen (s .before .ending) (cutOf xs .ending)) (withCut (cutOf xs) (judgedLine s (take 50 xs)))
     (refused s 0 brokenLine)))
     (refused s 0 beyondLimits)
 

@@ -7,7 +7,7 @@ ghost use Rattle.format.specs.Cutting.{isOpen, linesIn};
 ghost use Rattle.format.specs.declared.Kind.the-variants.{Transaction};
 ghost use Rattle.reading.specs.State.{Limited, maxLine, isLimited, within};
 ghost use Rattle.record.specs.Kinds.{isTransaction};
-ghost use Rattle.reading.specs.Step.{refused, judgedAs, judgedKind, judgedLine, withEnding, cutOff, judgedFirst};
+ghost use Rattle.reading.specs.Step.{refused, judgedAs, judgedKind, judgedLine, withEnding, withCut, judgedFirst};
 ghost use Rattle.reading.specs.Check.{judgedAfter, judgedLines};
 use crate::Judged;
 use crate::State;
@@ -138,7 +138,7 @@ impl State {
     }
 
     // Whether a line that is cut so may follow: it has an end, and no other than the first line's.
-    fn goes_on(self, cut: Cut) -> bool
+    fn may_follow(self, cut: Cut) -> bool
         ensures { λ r. ⌜ r ≡ isOpen (self .before .ending) (cut .ending) ⌝ }
     {
         let before = self.before;
@@ -159,9 +159,9 @@ impl State {
             return self.refused(format::AFTER_TRAILER, 0);
         }
         let cut = cut_of(rest);
-        if self.goes_on(cut) {
+        if self.may_follow(cut) {
             let judged = self.judge(part(rest, 0, 50));
-            judged.cut_off(cut)
+            judged.with_cut(cut)
         } else {
             self.refused(format::BROKEN_LINE, 0)
         }
@@ -208,8 +208,8 @@ impl State {
 
 impl Judged {
     // Of bytes that are cut so: a line that is accepted takes its bytes, and fixes the end.
-    fn cut_off(self, cut: Cut) -> Judged
-        ensures { λ r. ⌜ r ≡ cutOff cut self ⌝ }
+    fn with_cut(self, cut: Cut) -> Judged
+        ensures { λ r. ⌜ r ≡ withCut cut self ⌝ }
     {
         if self.number != 0 {
             return self;

@@ -1,32 +1,31 @@
 -- A file without its cities is accepted again, and is what the writer writes. Assumes nothing.
 use Prim.Native.Nat.{ℕ, _*_, _<_}
 use mathlib.Core.Path.{_≡_, refl, sym, ap, ap₂, _∙_, subst}
-use mathlib.Core.List.{List, [], _∷_, _++_, append-assoc}
-use mathlib.Core.Bool.{Bool, true, false, not, _&&_, _||_}
+use mathlib.Core.List.{List, [], _∷_, _++_}
+use mathlib.Core.Bool.{Bool, true, false, not, _&&_}
 use mathlib.Core.Option.{Option, none, some}
 use native.Mathlib.Omega.{arith}
 use borrow.Author.Tests.{eq-eqb}
-use lib.ListN.{length, take, drop, length-append}
-use lib.Seq.{take-all, take-at, take-take}
+use lib.ListN.{length, take, drop}
+use lib.Seq.{take-at, take-take}
 use Rattle.machine.specs.Lists.{pick, same, pasted}
 use Rattle.machine.proofs.Base.{true≢false}
 use Rattle.format.specs.Answers.{refusal}
 use Rattle.format.specs.declared.Answer.{Answer}
-use Rattle.format.specs.Fields.{writeFields}
 use Rattle.format.specs.Language.{File, Rec, fileRecs, isSome, Valid, Ending, crlf, endBytes, lineOf, linesOf, Reads}
-use Rattle.format.specs.Cutting.{isOpen, cutOf, nextLine, afterNext, linesFrom, linesIn, noEnding}
-use Rattle.format.specs.Records.{layout, code, Fields, type, amount, payer, beneficiary}
+use Rattle.format.specs.Cutting.{cutOf, nextLine, afterNext, linesFrom, linesIn, noEnding}
+use Rattle.format.specs.Records.{code, Fields, type, amount, payer, beneficiary}
 use Rattle.format.specs.Rules.{typeOf, isType}
 use Rattle.format.specs.declared.Kind.{Kind}
-use Rattle.format.specs.declared.Kind.the-variants.{Transaction, CityPayer, CityBeneficiary}
+use Rattle.format.specs.declared.Kind.the-variants.{Transaction}
 use Rattle.format.specs.declared.Code.the-variants.{Of}
 use Rattle.format.specs.declared.TypeRead.{TypeRead}
 use Rattle.format.specs.declared.TypeRead.the-variants as types
 use Rattle.format.proofs.Every.{every}
-use Rattle.format.proofs.Cutting.{Line, cut-bytes, lines-line}
-use Rattle.format.proofs.Reader.{Path, end, go}
+use Rattle.format.proofs.Cutting.{next-fifty, lines-line}
+use Rattle.format.proofs.Reader.{Phase, Context, Place, Ok, Path, end, go}
 use Rattle.format.proofs.Reader as the
-use Rattle.format.proofs.Link.{line-widths, is-line}
+use Rattle.format.proofs.Link.{line-code, line-again, is-line}
 use Rattle.format.proofs.Complete.{complete}
 use Rattle.field.proofs.Putting.{pasted-front}
 use Rattle.record.specs.Faults.{fieldsOf, faultOf}
@@ -59,34 +58,21 @@ use Rattle.rewriting.specs.Cities.{keptLine, keptOf, keptCount, withoutC
 use Rattle.rewriting.specs.Promises.{noCity, isCityKind, keptRecs, Rewrites, ended, city, written, Again, Promised}
 use Rattle.rewriting.specs.declared.Rewritten.{Rewritten}
 use Rattle.rewriting.proofs.Copying.{kept-size}
-use Rattle.rewriting.proofs.Behind.{Behind, alike, within-behind, taken-too, behind-too, behind-city, city-kind}
+use Rattle.rewriting.proofs.Behind.{Behind, alike, within-behind, taken-too, behind-too, behind-city, same-city, coded-city, city-kind}
 
 -- ## The records of a file, its lines ended by 13, 10
 
-module _ (k : Kind) (x : Fields k) (z : List ℕ) (h : Line z (lineOf z (k, x))) where
-  characters : List ℕ
-  characters = code k ++ writeFields (layout k) x
-
-  in-two : lineOf z (k, x) ≡ characters ++ z
-  unfolding characters
-  in-two = sym (append-assoc (code k) (writeFields (layout k) x) z)
-
-  fifty : length characters ≡ 50
-  fifty = omega (arith, h .long, ap length in-two, length-append characters z)
-
-  rec-ended : take 50 (lineOf z (k, x)) ++ lineEnd ≡ lineOf lineEnd (k, x)
-  unfolding characters
-  rec-ended = ap (λ l. l ++ lineEnd) (ap (take 50) in-two ∙ take-at characters z 50 fifty) ∙ append-assoc (code k) (writeFields (layout k) x) lineEnd
-
+module _ {p : Phase} {k : Kind} (pl : Place p k) (s : Context) (x : Fields k) (o : Ok pl s x) (z : List ℕ) where
   rec-city : isCity (lineOf z (k, x)) ≡ isCityKind k
-  unfolding isCity
-  rec-city =
-      let f = line-widths k .0 in
-      ap (λ c. same c (code CityPayer) || same c (code CityBeneficiary)) (take-at (code k) (writeFields (layout k) x ++ z) 5 f ∙ sym (take-all 5 (code k) (omega (arith, f))))
+  rec-city = coded-city (lineOf z (k, x)) k (line-code pl s x o z)
+
+  rec-line : keptLine (lineOf z (k, x)) ≡ pick (isCityKind k) [] (lineOf lineEnd (k, x))
+  unfolding keptLine
+  rec-line = ap₂ (λ q l. pick q [] l) rec-city (line-again pl s x o z lineEnd)
 
   rec-kept : (rs : List Rec) → keptLine (lineOf z (k, x)) ++ linesOf lineEnd (keptRecs rs) ≡ linesOf lineEnd (keptRecs ((k, x) ∷ rs))
-  unfolding keptLine keptRecs linesOf pick
-  rec-kept rs = rw (rec-city, rec-ended) (by (isCityKind k))
+  unfolding keptRecs linesOf pick
+  rec-kept rs = ap (λ l. l ++ linesOf lineEnd (keptRecs rs)) rec-line ∙ by (isCityKind k)
     where
       by : (q : Bool) → pick q [] (lineOf lineEnd (k, x)) ++ linesOf lineEnd (keptRecs rs) ≡ linesOf lineEnd (pick q (keptRecs rs) ((k, x) ∷ keptRecs rs))
       by true = refl
@@ -104,16 +90,15 @@ path-kept : {s : the.State} {rs : List Rec} → Path s rs → (z : Ending) → k
 unfolding keptOf keptRecs linesOf linesFrom
 path-kept end z = refl
 path-kept (go {s = s} {rs} k x pl o q) z =
-    let h = is-line pl s x o (endBytes z) in
-    ap keptOf (lines-line z (lineOf (endBytes z) (k, x)) (linesOf (endBytes z) rs) h)
-    ∙ ap (λ r. keptLine (lineOf (endBytes z) (k, x)) ++ r) (path-kept q z) ∙ rec-kept k x (endBytes z) h rs
+    ap keptOf (lines-line z (lineOf (endBytes z) (k, x)) (linesOf (endBytes z) rs) (is-line pl s x o (endBytes z)))
+    ∙ ap (λ r. keptLine (lineOf (endBytes z) (k, x)) ++ r) (path-kept q z) ∙ rec-kept pl s x o (endBytes z) rs
 
 path-none : {s : the.State} {rs : List Rec} → Path s rs → (z : Ending) → noCity (linesIn (linesOf (endBytes z) rs)) ≡ true → keptRecs rs ≡ rs
 unfolding keptRecs linesOf
 path-none end z n = refl
 path-none (go {s = s} {rs} k x pl o q) z n =
-    let h = is-line pl s x o (endBytes z) in
-    rec-none k x (endBytes z) h (linesIn (linesOf (endBytes z) rs)) rs (sym (ap noCity (lines-line z (lineOf (endBytes z) (k, x)) (linesOf (endBytes z) rs) h)) ∙ n) (λ m. path-none q z m)
+    let l = lines-line z (lineOf (endBytes z) (k, x)) (linesOf (endBytes z) rs) (is-line pl s x o (endBytes z)) in
+    rec-none pl s x o (endBytes z) (linesIn (linesOf (endBytes z) rs)) rs (sym (ap noCity l) ∙ n) (λ m. path-none q z m)
 
 pub only-ends : (file : List ℕ) (f : File) → Reads file f → withoutCities file ≡ linesOf (endBytes crlf) (keptRecs (fileRecs f))
 unfolding Reads withoutCities
@@ -128,15 +113,11 @@ same-file file f v e n =
 
 -- ## Accepted again
 
-next-fifty : (xs : List ℕ) → take 50 (nextLine xs) ≡ take 50 xs
-next-fifty xs = take-take 50 (cutOf xs .bytes) xs (omega (arith, cut-bytes xs))
-
 -- a line and the same characters with 13, 10 have one code
 ended-city : {s : State} (xs : List ℕ) (t : Taken s xs) → isCity (endedWith crlf xs) ≡ isCity (nextLine xs)
-unfolding isCity
 ended-city xs t =
-    ap (λ c. same c (code CityPayer) || same c (code CityBeneficiary))
-    (sym (take-take 5 50 (endedWith crlf xs) (omega arith)) ∙ ap (take 5) (fifty-first t crlf) ∙ take-take 5 50 xs (omega arith) ∙ sym (take-take 5 (cutOf xs .bytes) xs (omega (arith, cut-bytes xs))))
+    let e = fifty-first t crlf ∙ sym (next-fifty xs) in
+    same-city (endedWith crlf xs) (nextLine xs) (sym (take-take 5 50 (endedWith crlf xs) (omega arith)) ∙ ap (take 5) e ∙ take-take 5 50 (nextLine xs) (omega arith))
 
 record Follows (s : State) (i : Judged) : Type 0 where
   pub number : i .number ≡ 0
@@ -161,7 +142,6 @@ follows {u = u} (line {x = x} {xs} {lines} t r) i p = line-on t i p (keptOf line
 -- ## The end
 
 start-behind : Behind startState startState
-unfolding isOpen
 start-behind = record { line = 0; name = Unwanted; ending = noEnding; is = refl; small = omega arith; like = alike refl; still = refl }
 
 ended-behind : (j i : Judged) → Ended j → Follows (j .next) i → Ended i

@@ -2,7 +2,7 @@
 use Prim.Native.Nat.{ℕ, _+_, _≤_}
 use mathlib.Core.Path.{_≡_, refl, sym, ap, ap₂, _∙_, subst}
 use mathlib.Core.List.{List}
-use mathlib.Core.Bool.{Bool, true, false, not, _&&_, _||_}
+use mathlib.Core.Bool.{true, false, not, _&&_, _||_}
 use native.Mathlib.Omega.{arith}
 use borrow.Author.Tests.{le-leb}
 use lib.ListN.{take}
@@ -21,7 +21,7 @@ use Rattle.format.specs.declared.Kind.{Kind}
 use Rattle.format.specs.declared.Kind.the-variants.{FileHeader, BatchHeaderB, BatchHeaderC, FixedDescription, OrderingParty, Transaction, NamePayer, CityPayer, PaymentReference, Description, NameBeneficiary, CityBeneficiary, BatchTrailer, FileTrailer}
 use Rattle.format.specs.declared.Group.{Group}
 use Rattle.format.specs.declared.Group.the-variants.{Payments, Debits}
-use Rattle.format.proofs.Cutting.{cut-bytes, line-cut}
+use Rattle.format.proofs.Cutting.{next-fifty, line-cut}
 use Rattle.format.proofs.Every.{every}
 use Rattle.format.proofs.Link.{line-widths}
 use Rattle.record.specs.Kinds.{isCity}
@@ -168,7 +168,6 @@ module _ (s : State) (l : ℕ) (n : Name) (y : EndingSoFar) (h : l ≤ s .line) 
 
 -- after a line both have an ending, the writer's 13, 10
 behind-ended : {s w : State} (y : EndingSoFar) → Behind s w → Behind (withEnding y s) (withEnding CrLf w)
-unfolding isOpen
 behind-ended y b = record { line = b .line; name = b .name; ending = CrLf; is = ap (withEnding CrLf) (b .is); small = b .small; like = b .like; still = refl }
 
 module _ {s w : State} {xs : List ℕ} (b : Behind s w) (t : Taken s xs) where
@@ -210,8 +209,14 @@ module _ {s w : State} {xs : List ℕ} (b : Behind s w) (t : Taken s xs) where
       let n = subst (Behind (nextFor s (t .kind) x)) (sym (b .is)) (city-behind s (b .line) (b .name) (b .ending) (b .small) (b .like) (b .still) (t .kind) c (t .placed) x) in
       record { line = n .line; name = n .name; ending = n .ending; is = n .is; small = n .small; like = n .like; still = n .still }
 
-pub city-kind : {s : State} (xs : List ℕ) (t : Taken s xs) → isCity (nextLine xs) ≡ isCityKind (t .kind)
+-- ## The code tells whether a line is a city
+
+pub same-city : (a b : List ℕ) → take 5 a ≡ take 5 b → isCity a ≡ isCity b
 unfolding isCity
-city-kind xs t =
-    ap (λ c. same c (code CityPayer) || same c (code CityBeneficiary))
-    (take-take 5 (cutOf xs .bytes) xs (omega (arith, cut-bytes xs)) ∙ sym (take-take 5 50 xs (omega arith)) ∙ code-is (take 5 (take 50 xs)) (t .kind) (t .coded) ∙ sym (take-all 5 (code (t .kind)) (omega (arith, line-widths (t .kind) .0))))
+same-city a b e = ap (λ c. same c (code CityPayer) || same c (code CityBeneficiary)) e
+
+pub coded-city : (line : List ℕ) (k : Kind) → take 5 line ≡ code k → isCity line ≡ isCityKind k
+coded-city line k e = same-city line (code k) (e ∙ sym (take-all 5 (code k) (omega (arith, line-widths k .0))))
+
+pub city-kind : {s : State} (xs : List ℕ) (t : Taken s xs) → isCity (nextLine xs) ≡ isCityKind (t .kind)
+city-kind xs t = coded-city (nextLine xs) (t .kind) (sym (take-take 5 50 (nextLine xs) (omega arith)) ∙ ap (take 5) (next-fifty xs) ∙ code-is (take 5 (take 50 xs)) (t .kind) (t .coded))

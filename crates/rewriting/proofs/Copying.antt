@@ -6,13 +6,12 @@ use mathlib.Core.Bool.{Bool, true, false}
 use native.Mathlib.Omega.{arith}
 use borrow.Author.Needs.{needs}
 use borrow.Author.Tests.{eq-eqb, ne-eqb, le-leb, lt-leb}
-use lib.ListN.{length, take, drop, length-take, length-append, take-append-drop}
-use lib.Seq.{length-take-le}
+use lib.ListN.{length, take, drop, length-append, take-append-drop}
 use Rattle.machine.specs.Lists.{pick, pasted, putIn}
 use Rattle.format.specs.Answers.{refusal}
-use Rattle.format.specs.Cutting.{cutOf, nextLine, linesIn}
+use Rattle.format.specs.Cutting.{nextLine, linesIn}
 use Rattle.format.specs.declared.Answer.{Answer}
-use Rattle.format.proofs.Cutting.{cut-bytes, whole-long, line-inside, lines-at, lines-none}
+use Rattle.format.proofs.Cutting.{next-fifty, whole-fifty, line-inside, lines-at, lines-none}
 use Rattle.field.proofs.Putting.{put-both, put-fitting, put-long, length-pasted, pasted-both}
 use Rattle.record.specs.Kinds.{isCity}
 use Rattle.reading.specs.Check.{checkOf}
@@ -144,17 +143,16 @@ pub ruleset copies = (copy-none, copy-kept, copy-all, copy-more, needs)
 
 -- ## Of an accepted file each line that is kept has 52 bytes
 
-kept-52 : (xs : List ℕ) → 50 ≤ length (nextLine xs) → (q : Bool) → length (pick q [] (take 50 (nextLine xs) ++ lineEnd)) ≡ pick q 0 1 * 52
+kept-52 : (xs : List ℕ) → length (take 50 (nextLine xs)) ≡ 50 → (q : Bool) → length (pick q [] (take 50 (nextLine xs) ++ lineEnd)) ≡ pick q 0 1 * 52
 unfolding pick
 kept-52 xs h true = refl
-kept-52 xs h false = length-append (take 50 (nextLine xs)) lineEnd ∙ omega (arith, length-take-le 50 (nextLine xs) h)
+kept-52 xs h false = length-append (take 50 (nextLine xs)) lineEnd ∙ omega (arith, h)
 
 kept-long : {s u : State} {xs : List ℕ} {lines : List (List ℕ)} → Runs s xs lines u → length (keptOf lines) ≡ keptCount lines * 52
 unfolding keptOf keptLine keptCount keptOne
 kept-long no-more = refl
 kept-long (line {s = s} {x = x} {xs} {lines} t r) =
-    let n : 50 ≤ length (nextLine (x ∷ xs)) = omega (arith, length-take (cutOf (x ∷ xs) .bytes) (x ∷ xs), whole-long (s .before .ending) (x ∷ xs) (t .whole), cut-bytes (x ∷ xs)) in
-    let k = kept-52 (x ∷ xs) n (isCity (nextLine (x ∷ xs))) in
+    let k = kept-52 (x ∷ xs) (ap length (next-fifty (x ∷ xs)) ∙ whole-fifty (s .before .ending) (x ∷ xs) (t .whole)) (isCity (nextLine (x ∷ xs))) in
     length-append (keptLine (nextLine (x ∷ xs))) (keptOf lines) ∙ omega (arith, k, kept-long r)
 
 pub kept-size : {n : ℕ} (file : List ℕ) → checkOf file .number ≡ 0 → n ≡ keptCount (linesIn file) → n * 52 ≡ length (withoutCities file)

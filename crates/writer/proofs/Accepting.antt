@@ -15,7 +15,7 @@ use Rattle.format.specs.declared.Cut.{Cut}
 use Rattle.format.specs.declared.Kind.{Kind}
 use Rattle.format.specs.Answers.{acceptance}
 use Rattle.format.specs.declared.Code.the-variants.{Of}
-use Rattle.format.proofs.Cutting.{cut-bytes, whole-long, whole-next}
+use Rattle.format.proofs.Cutting.{whole-fifty, whole-next}
 use Rattle.format.proofs.Checks.{Holds, read-field}
 use Rattle.format.proofs.Link.{line-widths}
 use Rattle.field.specs.Rows.{partAt, fieldsAt}
@@ -72,7 +72,7 @@ read-taken s xs k h e =
 of-taken : {s : State} {xs : List ℕ} (t : Taken s xs) → 0 < length xs → Accepted s xs
 of-taken {s} {xs} t e =
     let k = t .kind in
-    let l : length (take 50 xs) ≡ 50 = length-take-le 50 xs (omega (arith, whole-long (s .before .ending) xs (t .whole), cut-bytes xs)) in
+    let l : length (take 50 xs) ≡ 50 = whole-fifty (s .before .ending) xs (t .whole) in
     let v = line-widths k .1 in
     let f = faultless (s .before) (s .batch) k (take 50 xs) (t .faultless) in
     let m = formed-back 6 (layout k) (take 50 xs) (omega arith) (omega arith) (f .0) in

@@ -3,7 +3,7 @@ use mathlib.Core.Path.{refl}
 use Rattle.machine.specs.Lists.{pick, same}
 use Rattle.machine.specs.Digits.{digitsOnto, decimal, valueAfter}
 use Rattle.format.specs.Rules.{daysIn, isDate, isDesiredDate, isTestCode, isIdentification, isOfDay, weighted, isEleven, isOrderingAccount, isAccount, isOwnIf, typeOf}
-use Rattle.format.specs.Cutting.{isOpen, cutOf}
+use Rattle.format.specs.Cutting.{cutOf}
 use Rattle.field.specs.Rows.{fieldAnswer, firstOr}
 use Rattle.field.specs.Leaf.{digitsOf}
 use Rattle.record.specs.Kinds.{codeOf, debitCode, batchCode, fileCode}
@@ -11,14 +11,14 @@ use Rattle.record.specs.Faults.{firstFault, faultOf}
 use Rattle.record.specs.Read.{padded}
 use Rattle.reading.specs.State.{isLimited, within}
 use Rattle.reading.specs.Order.{mayOpen, mayEnd, mayPay, mayName, mayText, mayRefer, textsBy, allowed}
-use Rattle.reading.specs.Step.{judgedAs, judgedKind, judgedLine, cutOff, judgedFirst, stepAt}
+use Rattle.reading.specs.Step.{judgedAs, judgedKind, judgedLine, withCut, judgedFirst, stepAt}
 use Rattle.writer.specs.Encoding.{numberIn, textIn, blankIn, encodedLine}
 use Rattle.writer.specs.Entries.{digitsFor, lineFor}
 use Rattle.writer.specs.Writing.{writtenOf}
 use Rattle.writer.specs.Cases.{Cases}
 
 pub cases : Cases
-unfolding pick same digitsOnto decimal valueAfter daysIn isDate isDesiredDate isTestCode isIdentification isOfDay weighted isEleven isOrderingAccount isAccount isOwnIf typeOf fieldAnswer firstOr digitsOf codeOf debitCode batchCode fileCode firstFault faultOf padded isLimited within mayOpen mayEnd mayPay mayName mayText mayRefer textsBy allowed judgedAs judgedKind judgedLine isOpen cutOf cutOff judgedFirst stepAt numberIn textIn blankIn encodedLine digitsFor lineFor writtenOf
+unfolding pick same digitsOnto decimal valueAfter daysIn isDate isDesiredDate isTestCode isIdentification isOfDay weighted isEleven isOrderingAccount isAccount isOwnIf typeOf fieldAnswer firstOr digitsOf codeOf debitCode batchCode fileCode firstFault faultOf padded isLimited within mayOpen mayEnd mayPay mayName mayText mayRefer textsBy allowed judgedAs judgedKind judgedLine cutOf withCut judgedFirst stepAt numberIn textIn blankIn encodedLine digitsFor lineFor writtenOf
 cases =
     record {
       header = refl;

@@ -21,7 +21,7 @@ use Rattle.record.specs.Faults.{faultAt, noFault, firstFault, fieldsOf, testsFo
 use Rattle.record.specs.declared.Fault.{Fault}
 use Rattle.reading.specs.State.{within}
 use Rattle.reading.specs.Order.{allowed}
-use Rattle.reading.specs.Step.{nextFor, refused, taken, judgedAs, judgedKind, judgedCode, judgedLine, cutOff, isDone, judgedFirst, stepAt}
+use Rattle.reading.specs.Step.{nextFor, refused, taken, judgedAs, judgedKind, judgedCode, judgedLine, withCut, isDone, judgedFirst, stepAt}
 use Rattle.reading.specs.declared.State.{State}
 use Rattle.reading.specs.declared.Judged.{Judged}
 use Rattle.writer.specs.Encoding.{Given, Givens, encodeField, encodeFields}
@@ -153,15 +153,15 @@ module _ (s : State) (e : Entry) (t : List ℕ) (h : length t ≡ 35) (z : unfit
   unfolding judgedLine
   line-stops = subst (λ c. Stops (judgedCode s line c)) (sym (ap codeOf (front-code s e t h) ∙ code-found (kindOf e))) kind-stops
 
-  cut-stops : Stops (judgedLine s line) → Stops (cutOff (cutOf (lineFor s e t)) (judgedLine s line))
-  unfolding cutOff pick
+  cut-stops : Stops (judgedLine s line) → Stops (withCut (cutOf (lineFor s e t)) (judgedLine s line))
+  unfolding withCut pick
   cut-stops f = rw (ne-eqb (judgedLine s line .number) 0 (f .some)) f
 
   first-stops : Stops (judgedFirst s (lineFor s e t))
   unfolding judgedFirst pick
   first-stops = by (within s) (isDone s) (isOpen (s .before .ending) (cutOf (lineFor s e t) .ending)) line-stops
     where
-      by : (a b c : Bool) → Stops (judgedLine s line) → Stops (pick a (pick b (refused s 0 11) (pick c (cutOff (cutOf (lineFor s e t)) (judgedLine s line)) (refused s 0 1))) (refused s 0 24))
+      by : (a b c : Bool) → Stops (judgedLine s line) → Stops (pick a (pick b (refused s 0 11) (pick c (withCut (cutOf (lineFor s e t)) (judgedLine s line)) (refused s 0 1))) (refused s 0 24))
       by true true c f = before 11 0 (λ i. omega arith) (omega arith)
       by true false true f = cut-stops f
       by true false false f = before 1 0 (λ i. omega arith) (omega arith)

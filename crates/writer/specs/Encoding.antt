@@ -1,7 +1,6 @@
 -- What is given for the fields of a record, as the 52 bytes of its line: by the format's table, with what a field cannot carry written so that no reader takes it.
 use Prim.Native.Nat.{ℕ}
 use mathlib.Core.List.{List, [], _∷_, _++_}
-use mathlib.Core.Bool.{Bool, true, false}
 use lib.ListN.{take, drop}
 use lib.Dec.{ltb}
 use Rattle.machine.specs.Lists.{pick, all, isSpace, spaces}

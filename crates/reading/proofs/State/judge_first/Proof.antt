@@ -15,10 +15,10 @@ judge-first-spec =
     (λ c κs. search needs)  -- refused-requires-2
     (λ c. search (first-done, within-yes) depth 3)  -- returns-2
     (λ c κs. search needs)  -- cut-of-requires
-    (λ c κs. search needs)  -- goes-on-requires
+    (λ c κs. search needs)  -- may-follow-requires
     (λ c κs. search needs)  -- part-requires
     (λ c κs. search needs)  -- judge-requires
-    (λ c κs. search needs)  -- cut-off-requires
+    (λ c κs. search needs)  -- with-cut-requires
     (λ c κs. search needs)  -- refused-requires-3
     (λ c. search (first-line, within-yes) depth 3)  -- returns-3
     (λ c. search (first-broken, within-yes) depth 3)  -- returns-4

@@ -1,11 +1,11 @@
--- What Judged::cut_off ensures, by the laws of Judgements.
+-- What Judged::with_cut ensures, by the laws of Judgements.
 use borrow.Author.Needs.{needs}
 use Rattle.reading.proofs.Judgements.{off-refused, off-taken}
-use Rattle.reading.proofs.Judged.cut_off.Statement.{statement}
-use Rattle.reading.proofs.Judged.cut_off.Tie as tie
+use Rattle.reading.proofs.Judged.with_cut.Statement.{statement}
+use Rattle.reading.proofs.Judged.with_cut.Tie as tie
 
-pub cut-off-spec : {M : Type 1} → statement M
-cut-off-spec =
+pub with-cut-spec : {M : Type 1} → statement M
+with-cut-spec =
     tie.close
     (tie.spec
     (λ c. search off-refused)  -- returns
