@@ -110,13 +110,13 @@ pub ruleset codes = (code-known, code-unknown)
 -- ## The first line
 
 module _ (c : Cut) (j : Judged) where
-  pub off-refused : (j .number ≡ 0 → ⊥) → j ≡ withCut c j
+  pub cut-refused : (j .number ≡ 0 → ⊥) → j ≡ withCut c j
   unfolding withCut pick
-  off-refused z = rw (ne-eqb _ _ z)
+  cut-refused z = rw (ne-eqb _ _ z)
 
-  pub off-taken : {u : State} → j .number ≡ 0 → u ≡ withEnding (c .ending) (j .next) → _≡_ {A = Judged} (record { number = j .number; column = j .column; bytes = c .bytes; code = j .code; next = u }) (withCut c j)
+  pub cut-taken : {u : State} → j .number ≡ 0 → u ≡ withEnding (c .ending) (j .next) → _≡_ {A = Judged} (record { number = j .number; column = j .column; bytes = c .bytes; code = j .code; next = u }) (withCut c j)
   unfolding withCut pick
-  off-taken z e = rw (e, eq-eqb _ _ z)
+  cut-taken z e = rw (e, eq-eqb _ _ z)
 
 module _ (s : State) (xs : List ℕ) where
   pub first-beyond : {x : Judged} → within s ≡ false → x ≡ refused s 0 24 → x ≡ judgedFirst s xs

@@ -12,7 +12,7 @@ use Rattle.format.specs.Cutting.{nextLine, afterNext, linesIn}
 use Rattle.format.specs.declared.Kind.{Kind}
 use Rattle.format.proofs.Cutting.{Lined, no-line, one-line, lined}
 use Rattle.reading.specs.State.{startState, isLimited, within}
-use Rattle.reading.specs.Step.{refused, taken, isDone, judgedFirst, refusalBy, endedAt}
+use Rattle.reading.specs.Step.{refused, isDone, judgedFirst, refusalBy, endedAt}
 use Rattle.reading.specs.Check.{judgedAfter, judgedLines, answerBy, restOf, checkOf}
 use Rattle.reading.specs.declared.State.{State}
 use Rattle.reading.specs.declared.Judged.{Judged}

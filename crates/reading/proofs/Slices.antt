@@ -14,7 +14,7 @@ use Rattle.format.specs.Cutting.{cutOf, nextLine, afterNext, linesFrom, linesIn
 use Rattle.format.proofs.Cutting.{next-fifty, line-inside, lines-first}
 use Rattle.record.specs.declared.Record.{Record}
 use Rattle.reading.specs.State.{within}
-use Rattle.reading.specs.Step.{refused, taken, readBy, endedAt, stepAt}
+use Rattle.reading.specs.Step.{refused, readBy, endedAt, stepAt}
 use Rattle.reading.specs.Check.{judgedAfter, judgedLines, answerBy, restOf, recordsAfter}
 use Rattle.reading.specs.declared.State.{State}
 use Rattle.reading.specs.declared.Judged.{Judged}

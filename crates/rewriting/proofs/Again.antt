@@ -14,7 +14,7 @@ use Rattle.format.specs.Answers.{refusal}
 use Rattle.format.specs.declared.Answer.{Answer}
 use Rattle.format.specs.Language.{File, Rec, fileRecs, isSome, Valid, Ending, crlf, endBytes, lineOf, linesOf, Reads}
 use Rattle.format.specs.Cutting.{cutOf, nextLine, afterNext, linesFrom, linesIn, noEnding}
-use Rattle.format.specs.Records.{code, Fields, type, amount, payer, beneficiary}
+use Rattle.format.specs.Records.{Fields, type, amount, payer, beneficiary}
 use Rattle.format.specs.Rules.{typeOf, isType}
 use Rattle.format.specs.declared.Kind.{Kind}
 use Rattle.format.specs.declared.Kind.the-variants.{Transaction}
