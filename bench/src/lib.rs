@@ -6,7 +6,9 @@
 use std::io::{self, Write};
 
 const ORDERING_ACCOUNT: u64 = 123_456_789;
-const OTHER_ACCOUNT: u64 = 111_111_110;
+const SALARY_ACCOUNT: u64 = 111_111_110;
+/// Of seven digits, for the types that are unchecked.
+const UNCHECKED_ACCOUNT: u64 = 1_234_567;
 const TEN_DIGITS: u64 = 10_000_000_000;
 
 /// The file that [`Month::write`] writes.
@@ -47,17 +49,22 @@ impl Month {
             total += amount;
             self.item(out, amount, item)?;
         }
-        let accounts = self.items * (ORDERING_ACCOUNT + OTHER_ACCOUNT) % TEN_DIGITS;
+        let accounts = self.items * (ORDERING_ACCOUNT + self.kind().1) % TEN_DIGITS;
         self.line(out, &format!("9990A{total:018}{accounts:010}{:07}", self.items))
     }
 
+    /// The type of its items, and their beneficiary.
+    fn kind(&self) -> (&'static str, u64) {
+        match self.lines {
+            1 => ("0008", SALARY_ACCOUNT),
+            2 => ("0003", UNCHECKED_ACCOUNT),
+            _ => ("0000", UNCHECKED_ACCOUNT),
+        }
+    }
+
     fn item(&self, out: &mut impl Write, amount: u64, item: u64) -> io::Result<()> {
-        let kind = match self.lines {
-            1 => "0008",
-            2 => "0003",
-            _ => "0000",
-        };
-        self.line(out, &format!("0100A{kind}{amount:012}{ORDERING_ACCOUNT:010}{OTHER_ACCOUNT:010}"))?;
+        let (kind, account) = self.kind();
+        self.line(out, &format!("0100A{kind}{amount:012}{ORDERING_ACCOUNT:010}{account:010}"))?;
         if self.lines == 7 {
             self.line(out, &format!("0150A{item:016}"))?;
             self.line(out, "0160AFACTUUR VAN DE MAAND")?;

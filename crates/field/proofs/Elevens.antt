@@ -1,8 +1,8 @@
--- The eleven check by digits, and the own account. Assumes nothing.
+-- The eleven check by digits, and the accounts of a transaction. Assumes nothing.
 use Prim.Native.Nat.{ℕ, zero, suc, _+_, _-_, _*_, _/_, _%_, _<_, _≤_}
 use mathlib.Core.Path.{_≡_, refl, sym, ap, ap₂, _∙_}
 use mathlib.Core.List.{List, [], _∷_}
-use mathlib.Core.Bool.{Bool, true, false}
+use mathlib.Core.Bool.{Bool, true, false, not, _&&_}
 use native.Mathlib.Omega.{arith}
 use native.Mathlib.Nat.{mul-le-mul}
 use native.Mathlib.Numerals.{add-one}
@@ -16,7 +16,7 @@ use mir.Syntax.{w64}
 use Rattle.machine.specs.Lists.{all, isDigit}
 use Rattle.machine.specs.Digits.{valueAfter, valueOf}
 use Rattle.machine.proofs.Base.{and-first, and-second}
-use Rattle.format.specs.Rules.{isEleven, isOrderingAccount, isAccount, weighted, isOwnIf}
+use Rattle.format.specs.Rules.{isEleven, isOrderingAccount, isSevenDigits, isAccount, weighted, isOwnIf, isSevenIf}
 use Rattle.format.specs.Tests.{rangeTests}
 use Rattle.field.specs.declared.numbers.Numeric.{Numeric}
 use Rattle.field.specs.Leaf.{TenDigits, weighedSum, numericOf}
@@ -117,13 +117,14 @@ pub ordering-no : (v : ℕ) → v < 100000000 → false ≡ isOrderingAccount v
 unfolding isOrderingAccount
 ordering-no v h = rw (lt-leb 100000000 v h)
 
-pub account-short : (v : ℕ) → v ≤ 9999999 → true ≡ isAccount v
-unfolding isAccount
-account-short v h = rw (le-leb v 9999999 h)
+module _ {short : Bool} (v : ℕ) (e : short ≡ isSevenDigits v) where
+  pub account-short : short ≡ true → true ≡ isAccount v
+  unfolding isAccount
+  account-short h = rw (sym e ∙ h)
 
-pub account-long : {x : Bool} (v : ℕ) → 9999999 < v → x ≡ isOrderingAccount v → x ≡ isAccount v
-unfolding isAccount
-account-long v h e = rw (lt-leb v 9999999 h) e
+  pub account-long : {x : Bool} → short ≡ false → x ≡ isOrderingAccount v → x ≡ isAccount v
+  unfolding isAccount
+  account-long h p = rw (sym e ∙ h) p
 
 pub ruleset elevens = (ordering-yes, ordering-no, account-short, account-long, needs)
 
@@ -137,15 +138,31 @@ ten-digits low high m q e z =
       value = of-value (rangeTests low high) (take 10 m) e z ∙ ap valueOf (sym q);
     }
 
--- ## The own account, where it has to be
+-- ## The own account, where it has to be, and seven digits, where they are asked of the other party
 
 module _ {mine : Bool} (own v : ℕ) where
-  pub own-mine : {q : Bool} → mine ≡ true → eqb v own ≡ q → isOwnIf mine own v ≡ q
+  pub own-mine : mine ≡ true → eqb v own ≡ isOwnIf mine own v
   unfolding isOwnIf
-  own-mine h e = rw h e
+  own-mine h = rw h
 
-  pub own-other : mine ≡ false → isOwnIf mine own v ≡ true
+  pub own-other : mine ≡ false → true ≡ isOwnIf mine own v
   unfolding isOwnIf
   own-other h = rw h
 
 pub ruleset owns = (own-mine, own-other)
+
+module _ {mine : Bool} (unchecked : Bool) (v : ℕ) where
+  pub seven-own : mine ≡ true → true ≡ isSevenIf (not mine && unchecked) v
+  unfolding isSevenIf
+  seven-own h = rw h
+
+  module _ (h : mine ≡ false) where
+    pub seven-asked : {x : Bool} → unchecked ≡ true → x ≡ isSevenDigits v → x ≡ isSevenIf (not mine && unchecked) v
+    unfolding isSevenIf
+    seven-asked u p = rw (h, u) p
+
+    pub seven-free : unchecked ≡ false → true ≡ isSevenIf (not mine && unchecked) v
+    unfolding isSevenIf
+    seven-free u = rw (h, u)
+
+pub ruleset sevens = (seven-own, seven-asked, seven-free)

@@ -1,10 +1,10 @@
 // Accounts.
 ghost use mathlib.Core.Path.{_≡_};
-ghost use mathlib.Core.Bool.{true};
+ghost use mathlib.Core.Bool.{true, not, _&&_};
 ghost use Prim.Native.Nat.{_≤_};
 ghost use lib.ListN.{length, take, drop};
 ghost use Rattle.machine.specs.Lists.{all, isDigit};
-ghost use Rattle.format.specs.Rules.{maxAccount, isOrderingAccount, isAccount};
+ghost use Rattle.format.specs.Rules.{maxAccount, isOrderingAccount, isSevenDigits, isAccount, isOwnIf, isSevenIf};
 ghost use Rattle.format.specs.Tests.{rangeTests, orderingTests, partyTests};
 ghost use Rattle.field.specs.Leaf.{TenDigits, weighedSum, numericOf};
 use crate::bytes::part;
@@ -43,12 +43,18 @@ fn is_ordering_account(s: &[u8], v: u64) -> bool
     }
 }
 
-// Those, or at most seven digits.
+fn is_seven_digits(v: u64) -> bool
+    ensures { λ r. ⌜ r ≡ isSevenDigits v ⌝ }
+{
+    v <= 9999999
+}
+
+// Nine or ten digits that pass, or at most seven.
 fn is_account(s: &[u8], v: u64) -> bool
     requires { ⌜ TenDigits (now s) v ⌝ }
     ensures { λ r. ⌜ r ≡ isAccount v ⌝ }
 {
-    if v <= 9999999 {
+    if is_seven_digits(v) {
         return true;
     }
     is_ordering_account(s, v)
@@ -76,23 +82,40 @@ pub fn ordering(line: &[u8], at: usize) -> Numeric
     }
 }
 
-// An account of a transaction, which is the ordering account where it has to be the own one.
-pub fn party(line: &[u8], at: usize, mine: bool, own: u64) -> Numeric
-    ensures { λ r. ⌜ r ≡ numericOf (partyTests mine own) (take 10 (drop at (now (line .entry)))) ⌝ }
+// The ordering account, where it has to be the own one.
+fn is_own_if(mine: bool, own: u64, v: u64) -> bool
+    ensures { λ r. ⌜ r ≡ isOwnIf mine own v ⌝ }
+{
+    if mine { v == own } else { true }
+}
+
+// At most seven digits, where it is the other party of an unchecked type.
+fn is_seven_if(mine: bool, unchecked: bool, v: u64) -> bool
+    ensures { λ r. ⌜ r ≡ isSevenIf (not mine && unchecked) v ⌝ }
+{
+    if mine {
+        return true;
+    }
+    if unchecked { is_seven_digits(v) } else { true }
+}
+
+// An account of a transaction: the own one, or the other party's.
+pub fn party(line: &[u8], at: usize, mine: bool, own: u64, unchecked: bool) -> Numeric
+    ensures { λ r. ⌜ r ≡ numericOf (partyTests mine own unchecked) (take 10 (drop at (now (line .entry)))) ⌝ }
 {
     let f = account_number(line, at);
     if f.number != 0 {
         return f;
     }
     if is_account(part(line, at, 10), f.value) {
-        if mine {
-            if f.value == own {
+        if is_own_if(mine, own, f.value) {
+            if is_seven_if(mine, unchecked, f.value) {
                 f
             } else {
-                wrong(format::DIFFERS)
+                wrong(format::ORDINARY_ACCOUNT)
             }
         } else {
-            f
+            wrong(format::DIFFERS)
         }
     } else {
         wrong(format::WRONG_ACCOUNT)

@@ -2,7 +2,7 @@
 use mathlib.Core.Path.{refl}
 use Rattle.machine.specs.Lists.{pick, same}
 use Rattle.machine.specs.Digits.{digitsOnto, decimal, valueAfter}
-use Rattle.format.specs.Rules.{daysIn, isDate, isDesiredDate, isTestCode, isIdentification, isOfDay, weighted, isEleven, isOrderingAccount, isAccount, isOwnIf, isNameCodeIn, typeOf}
+use Rattle.format.specs.Rules.{daysIn, isDate, isDesiredDate, isTestCode, isIdentification, isOfDay, weighted, isEleven, isOrderingAccount, isAccount, isOwnIf, isSevenIf, isNameCodeIn, typeOf}
 use Rattle.format.specs.Cutting.{cutOf, linesFrom}
 use Rattle.field.specs.Rows.{fieldAnswer, firstOr}
 use Rattle.record.specs.Kinds.{codeOf, debitCode, batchCode, fileCode}
@@ -12,15 +12,15 @@ use Rattle.reading.specs.Order.{mayOpen, mayFix, mayEnd, mayPay, mayName, allow
 use Rattle.reading.specs.Step.{judgedAs, judgedKind, judgedLine, withCut, judgedFirst, endedAt, stepAt}
 use Rattle.reading.specs.Check.{judgedAfter, judgedLines, checkOf, restOf}
 use Rattle.file.proofs.Example.{example-1310, example-10}
-use Rattle.file.specs.Cases.{Each, Right, accountCases, amountCases, sumCases, dateCases, descriptionCases, sequenceCases, orderCases, fileCases, endingCases, cases}
+use Rattle.file.specs.Cases.{Each, Right, accountCases, amountCases, sumCases, dateCases, descriptionCases, sequenceCases, orderCases, fileCases, endingCases, uncheckedCases, cases}
 
 -- a record's first fault
 accounts : Each accountCases
-unfolding pick same digitsOnto decimal valueAfter weighted isEleven isOrderingAccount isAccount isOwnIf typeOf fieldAnswer firstOr firstFault faultOf
+unfolding pick same digitsOnto decimal valueAfter weighted isEleven isOrderingAccount isAccount isOwnIf isSevenIf typeOf fieldAnswer firstOr firstFault faultOf
 accounts = ((refl, refl), ((refl, refl), ((refl, refl), ((refl, refl), (refl, ((refl, refl), (refl, (refl, tt))))))))
 
 amounts : Each amountCases
-unfolding pick same digitsOnto decimal valueAfter weighted isEleven isOrderingAccount isAccount isOwnIf typeOf fieldAnswer firstOr firstFault faultOf
+unfolding pick same digitsOnto decimal valueAfter weighted isEleven isOrderingAccount isAccount isOwnIf isSevenIf typeOf fieldAnswer firstOr firstFault faultOf
 amounts = (refl, (refl, (refl, (refl, tt))))
 
 sequences : Each sequenceCases
@@ -36,7 +36,7 @@ descriptions = (refl, (refl, (refl, tt)))
 
 -- lines one after the other
 sums : Each sumCases
-unfolding pick same digitsOnto decimal valueAfter weighted isEleven isOrderingAccount isAccount isOwnIf typeOf fieldAnswer firstOr codeOf debitCode batchCode fileCode firstFault faultOf isLimited within mayEnd mayPay allowed judgedAs judgedKind judgedLine cutOf withCut judgedFirst stepAt
+unfolding pick same digitsOnto decimal valueAfter weighted isEleven isOrderingAccount isAccount isOwnIf isSevenIf typeOf fieldAnswer firstOr codeOf debitCode batchCode fileCode firstFault faultOf isLimited within mayEnd mayPay allowed judgedAs judgedKind judgedLine cutOf withCut judgedFirst stepAt
 sums = ((refl, refl, refl, refl, refl), ((refl, refl, refl, refl, refl), tt))
 
 orders : Each orderCases
@@ -44,12 +44,16 @@ unfolding pick same digitsOnto decimal valueAfter daysIn isDate isIdentification
 orders = (refl, tt)
 
 files : Each fileCases
-unfolding pick same digitsOnto decimal valueAfter daysIn isDate isDesiredDate isTestCode isIdentification isOfDay weighted isEleven isOrderingAccount isAccount isOwnIf isNameCodeIn typeOf fieldAnswer firstOr codeOf debitCode batchCode fileCode firstFault faultOf isLimited within mayOpen mayFix mayEnd mayPay mayName allowed judgedAs judgedKind judgedLine cutOf withCut judgedFirst endedAt linesFrom judgedAfter judgedLines restOf checkOf
+unfolding pick same digitsOnto decimal valueAfter daysIn isDate isDesiredDate isTestCode isIdentification isOfDay weighted isEleven isOrderingAccount isAccount isOwnIf isSevenIf isNameCodeIn typeOf fieldAnswer firstOr codeOf debitCode batchCode fileCode firstFault faultOf isLimited within mayOpen mayFix mayEnd mayPay mayName allowed judgedAs judgedKind judgedLine cutOf withCut judgedFirst endedAt linesFrom judgedAfter judgedLines restOf checkOf
 files = (refl, (refl, (example-1310, (refl, (example-10, tt)))))
 
 endings : Each endingCases
-unfolding pick same digitsOnto decimal valueAfter daysIn isDate isDesiredDate isTestCode isIdentification isOfDay weighted isEleven isOrderingAccount isAccount isOwnIf isNameCodeIn typeOf fieldAnswer firstOr codeOf debitCode batchCode fileCode firstFault faultOf isLimited within mayOpen mayFix mayEnd mayPay mayName allowed judgedAs judgedKind judgedLine cutOf withCut judgedFirst endedAt linesFrom judgedAfter judgedLines restOf checkOf stepAt
+unfolding pick same digitsOnto decimal valueAfter daysIn isDate isDesiredDate isTestCode isIdentification isOfDay weighted isEleven isOrderingAccount isAccount isOwnIf isSevenIf isNameCodeIn typeOf fieldAnswer firstOr codeOf debitCode batchCode fileCode firstFault faultOf isLimited within mayOpen mayFix mayEnd mayPay mayName allowed judgedAs judgedKind judgedLine cutOf withCut judgedFirst endedAt linesFrom judgedAfter judgedLines restOf checkOf stepAt
 endings = (refl, (refl, (refl, (refl, (refl, (refl, ((refl, refl), ((refl, refl), ((refl, refl), ((refl, refl), tt))))))))))
 
+uncheckeds : Each uncheckedCases
+unfolding pick same digitsOnto decimal valueAfter daysIn isDate isDesiredDate isTestCode isIdentification isOfDay weighted isEleven isOrderingAccount isAccount isOwnIf isSevenIf isNameCodeIn typeOf fieldAnswer firstOr codeOf debitCode batchCode fileCode firstFault faultOf isLimited within mayOpen mayFix mayEnd mayPay mayName allowed judgedAs judgedKind judgedLine cutOf withCut judgedFirst endedAt linesFrom judgedAfter judgedLines restOf checkOf
+uncheckeds = (refl, (refl, (refl, (refl, (refl, (refl, (refl, (refl, (refl, tt)))))))))
+
 pub worked : Right cases
-worked = (accounts, (amounts, (sums, (dates, (descriptions, (sequences, (orders, (files, (endings, tt)))))))))
+worked = (accounts, (amounts, (sums, (dates, (descriptions, (sequences, (orders, (files, (endings, (uncheckeds, tt))))))))))

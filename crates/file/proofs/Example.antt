@@ -3,17 +3,17 @@ use mathlib.Core.Path.{refl}
 use native.Mathlib.Omega.{arith}
 use Rattle.machine.specs.Lists.{pick, same}
 use Rattle.machine.specs.Digits.{digitsOnto, decimal, valueAfter}
-use Rattle.format.specs.Rules.{isTestCode, daysIn, isDate, isDesiredDate, isIdentification, isOfDay, weighted, isEleven, isOrderingAccount, isAccount, isOwnIf, isNameCodeIn, typeOf}
+use Rattle.format.specs.Rules.{isTestCode, daysIn, isDate, isDesiredDate, isIdentification, isOfDay, weighted, isEleven, isOrderingAccount, isAccount, isOwnIf, isSevenIf, isNameCodeIn, typeOf}
 use Rattle.format.specs.Language.{ItemOk, BatchOk, noneBefore, Valid, crlf, lf, linesOf, Reads}
 use Rattle.format.specs.declared.Group.the-variants.{Payments}
 use Rattle.file.specs.Example.{end1310, end10, example, salary, uncheckedSalary, exampleBatch, exampleFile}
 use Rattle.file.proofs.Paying.{payment-ok}
 
 salary-ok : ItemOk Payments 123456789 salary
-unfolding same pick weighted isEleven isOrderingAccount isAccount isOwnIf typeOf
+unfolding same pick weighted isEleven isOrderingAccount isAccount isOwnIf isSevenIf typeOf
 salary-ok =
     record {
-      transaction-ok = payment-ok (refl, tt) tt (omega arith) (omega arith) tt;
+      transaction-ok = payment-ok (refl, tt) tt (omega arith) (omega arith) tt tt;
       reference-ok = tt;
       descriptions-ok = tt;
       room = omega arith;
@@ -21,10 +21,10 @@ salary-ok =
     }
 
 unchecked-ok : ItemOk Payments 123456789 uncheckedSalary
-unfolding same pick weighted isEleven isOrderingAccount isAccount isOwnIf typeOf
+unfolding same pick weighted isEleven isOrderingAccount isAccount isOwnIf isSevenIf typeOf
 unchecked-ok =
     record {
-      transaction-ok = payment-ok (refl, tt) tt (omega arith) (omega arith) tt;
+      transaction-ok = payment-ok (refl, tt) tt (omega arith) (omega arith) tt tt;
       reference-ok = tt;
       descriptions-ok = tt;
       room = omega arith;

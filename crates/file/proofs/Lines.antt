@@ -1,6 +1,7 @@
 -- ONE LINE: in every state of the code, what is judged of a line is what the language's reader does with it. Assumes nothing.
 use Prim.Native.Nat.{ℕ, zero, suc, _+_, _-_, _≤_}
 use mathlib.Core.Path.{_≡_, refl, sym, ap, ap₂, _∙_, subst}
+use mathlib.Core.Logic.{_≢_}
 use mathlib.Core.List.{List, [], _∷_}
 use mathlib.Core.Bool.{Bool, true, false, cond}
 use mathlib.Core.Option.{Option, none, some}
@@ -12,8 +13,9 @@ use Rattle.machine.specs.Lists.{pick, same}
 use Rattle.machine.proofs.Base.{next, refuse, same→eq}
 use Rattle.format.specs.Fields.{widths, readFields}
 use Rattle.format.specs.Records.{layout, code, Fields, type, amount, payer, beneficiary}
-use Rattle.format.specs.Rules.{needsName, typeOf}
-use Rattle.format.specs.Language.{In, tenDigits}
+use Rattle.format.specs.Rules.{isUncheckedType, typeOf}
+use Rattle.format.specs.Language.{tenDigits}
+use Rattle.format.specs.Answers.{isOfFile, beyondLimits}
 use Rattle.format.specs.Tests.{Check}
 use Rattle.format.specs.declared.Kind.{Kind}
 use Rattle.format.specs.declared.Kind.the-variants.{Transaction}
@@ -88,8 +90,8 @@ adds-item p b x =
     let e : suc (b .items) ≡ b .items + 1 = omega arith in
     λ i. record { account = b .account; before = record { sequence = p .sequence }; total = b .total + amount x; accounts = tenDigits (b .accounts + payer x + beneficiary x); count = e i }
 
-begins-item : (g : Group) (p : Before) (b : Batch) (x : Fields Transaction) → beginItem g (contextOf p b) x ≡ at (itemPhase g (nameIf (needsName (transactionFor x .kind))) fresh) (contextOf p (paidBatch b (transactionFor x)))
-begins-item g p b x = ap₂ at (opens-item g (needsName (typeOf (type x)))) (adds-item p b x)
+begins-item : (g : Group) (p : Before) (b : Batch) (x : Fields Transaction) → beginItem g (contextOf p b) x ≡ at (itemPhase g (nameIf (isUncheckedType (transactionFor x .kind))) fresh) (contextOf p (paidBatch b (transactionFor x)))
+begins-item g p b x = ap₂ at (opens-item g (isUncheckedType (typeOf (type x)))) (adds-item p b x)
 
 -- ## An edge of the reader from a state: the same tests, and the place of the next state
 
@@ -155,9 +157,16 @@ edge-of s pl x = edge (s .line) (s .before) (s .batch) (s .item .reference) (s .
 
 -- ## What is judged of a line, and what the reader does with it
 
+-- a refusal that a file can have
+abbrev pub Refusing : ℕ → Type 0
+Refusing number = (1 ≤ number) × (isOfFile number ≡ true)
+
+pub of-no-state : (number : ℕ) → isOfFile number ≡ true → number ≢ beyondLimits
+of-no-state number h e = subst T (sym h ∙ ap isOfFile e) tt
+
 pub data Agrees (s : State) (line : List ℕ) : Judged → Type 0 where
   goes : (k : Kind) (u : State) → step (placeOf s) line ≡ next (placeOf u) → u .line ≡ s .line + 1 → Agrees s line (taken k u)
-  stops : (column number : ℕ) → In 1 9 number → step (placeOf s) line ≡ refuse number column → Agrees s line (refused s column number)
+  stops : (column number : ℕ) → Refusing number → step (placeOf s) line ≡ refuse number column → Agrees s line (refused s column number)
 
 module _ (s : State) (line : List ℕ) (k : Kind) (e : take 5 line ≡ code k) where
   x : Fields k
@@ -182,7 +191,7 @@ module _ (s : State) (line : List ℕ) (k : Kind) (e : take 5 line ≡ code k) w
       ∙ ap₂ (λ t m. judge (lineChecks 6 (layout k) t body m) (advance pl ctx x)) (w .0) (w .1)
       ∙ ap (judge faults) (w .2)
 
-  by-fault : Place (phaseOf s) k → (f : Fault) → f .number ≤ 9 → Same (placeOf (nextFor s k x)) faults f → Agrees s line (judgedBy s k line f)
+  by-fault : Place (phaseOf s) k → (f : Fault) → isOfFile (f .number) ≡ true → Same (placeOf (nextFor s k x)) faults f → Agrees s line (judgedBy s k line f)
   unfolding x pick
   by-fault pl f h (passed p) = goes k (nextFor s k x) (stepped pl ∙ pass-judge faults (placeOf (nextFor s k x)) p) (next-line s k x)
   by-fault pl f h (stopped c n z q) =
@@ -192,7 +201,7 @@ module _ (s : State) (line : List ℕ) (k : Kind) (e : take 5 line ≡ code k) w
   unfolding pick judgedAs x body faults
   by-place true a = by-fault (its-place s k a) (faultOf (s .before) (s .batch) k line) (fault-numbers (s .before) (s .batch) k line) (same-faults (placeOf (nextFor s k x)) (s .before) (s .batch) k line)
   by-place false a =
-      stops 1 3 (omega arith)
+      stops 1 3 (omega arith, refl)
       (step-out (phaseOf s) (contextOf (s .before) (s .batch)) line (ap (λ c. find c (choices (phaseOf s))) e ∙ no-place s k a) ∙ ap (λ c. the.lost (kindOf c kinds)) e ∙ ap the.lost (kindOf-code k))
 
 -- ## The kind of a line
@@ -221,4 +230,4 @@ line-agrees s line = by (codeOf (take 5 line)) refl
     by (Of k) e = by-place s line k (code-is (take 5 line) k e) (allowed s k) refl
     by Unknown e =
         let n = no-code (take 5 line) e in
-        stops 1 2 (omega arith) (step-out (phaseOf s) (contextOf (s .before) (s .batch)) line (no-choice (take 5 line) (choices (phaseOf s)) n) ∙ ap the.lost (no-kind (take 5 line) kinds n))
+        stops 1 2 (omega arith, refl) (step-out (phaseOf s) (contextOf (s .before) (s .batch)) line (no-choice (take 5 line) (choices (phaseOf s)) n) ∙ ap the.lost (no-kind (take 5 line) kinds n))

@@ -7,7 +7,7 @@ use native.Mathlib.Omega.{arith}
 use lib.ListN.{length, replicate, length-replicate}
 use Rattle.machine.specs.Lists.{pick, same}
 use Rattle.machine.specs.Digits.{valueAfter}
-use Rattle.format.specs.Rules.{isTestCode, daysIn, isDate, isDesiredDate, isIdentification, isOfDay, weighted, isEleven, isOrderingAccount, isAccount, isOwnIf, isNameCodeIn, typeOf, typeText}
+use Rattle.format.specs.Rules.{isTestCode, daysIn, isDate, isDesiredDate, isIdentification, isOfDay, weighted, isEleven, isOrderingAccount, isAccount, isOwnIf, isSevenIf, isNameCodeIn, typeOf, typeText}
 use Rattle.format.specs.Language.{Item, Batch, File, totalOf, accountsOf, tenDigits, Rec, itemsRecs, batchTrailerRec, batchesRecs, fileTrailerRecs, fileRecs, ItemOk, ItemsOk, Follows, BatchOk, BatchesOk, Valid, Ending, endBytes, lineOf, linesOf, Reads}
 use Rattle.format.specs.Cutting.{linesFrom, linesIn}
 use Rattle.format.specs.Answers.{acceptance}
@@ -50,10 +50,10 @@ item =
     }
 
 item-ok : ItemOk Payments 123456789 item
-unfolding item same pick weighted isEleven isOrderingAccount isAccount isOwnIf typeOf
+unfolding item same pick weighted isEleven isOrderingAccount isAccount isOwnIf isSevenIf typeOf
 item-ok =
     record {
-      transaction-ok = payment-ok (refl, tt) tt (omega arith) (omega arith) tt;
+      transaction-ok = payment-ok (refl, tt) tt (omega arith) (omega arith) tt tt;
       reference-ok = (refl, tt);
       descriptions-ok = ((refl, tt), ((refl, tt), ((refl, tt), tt)));
       room = omega arith;

@@ -15,6 +15,7 @@ use Rattle.reading.specs.State.{maxLine}
 use Rattle.reading.specs.Check.{checkOf}
 use Rattle.file.specs.Meaning.{Means}
 use Rattle.file.proofs.Counted.{each-counted}
+use Rattle.file.proofs.Lines.{of-no-state}
 use Rattle.file.proofs.Run.{Says, yes, no, same-answer}
 
 -- of an answer that says what the language's reader says
@@ -26,7 +27,7 @@ means-as b (yes n h) e =
       one-reading = the.one-reading b;
       each-counted = λ f r. each-counted f;
       refusal = λ z. absurd (z refl);
-      numbers = omega arith;
+      numbers = refl;
     }
 means-as b (no number n column h) e =
     record {
@@ -35,7 +36,7 @@ means-as b (no number n column h) e =
       one-reading = the.one-reading b;
       each-counted = λ f r. each-counted f;
       refusal = λ z. the.refusals b number n column e;
-      numbers = omega arith;
+      numbers = h .1;
     }
   where
     accepted≢refused : (m : ℕ) → base.accepted m ≡ base.refused number n column → ⊥
@@ -67,7 +68,7 @@ refusals b number n column z e = subst (λ (r : Answer). RefusalTells b (r .numb
 
 -- NO FILE IS ANSWERED 24
 pub never-beyond : (b : List ℕ) → checkOf b .number ≢ beyondLimits
-never-beyond b e = omega (arith, means b .numbers)
+never-beyond b = of-no-state (checkOf b .number) (means b .numbers)
 
 -- no accepted file has more lines than 01's limit
 pub none-longer : (b : List ℕ) (n : ℕ) → checkOf b ≡ acceptance n → n ≤ maxLine

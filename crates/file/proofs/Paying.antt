@@ -4,15 +4,15 @@ use mathlib.Core.List.{List}
 use lib.Dec.{T}
 use native.Mathlib.Omega.{arith}
 use Rattle.machine.specs.Lists.{pick}
-use Rattle.format.specs.Rules.{maxAmount, maxAccount, weighted, isEleven, isOrderingAccount, isAccount, isOwnIf, isTypeIn, typeOf}
+use Rattle.format.specs.Rules.{maxAmount, maxAccount, weighted, isEleven, isOrderingAccount, isAccount, isOwnIf, isSevenIf, isTypeIn, typeOf, isUncheckedType}
 use Rattle.format.specs.Fields.{filled, Fit}
 use Rattle.format.specs.Language.{In, TransactionOk}
 use Rattle.format.specs.declared.Group.the-variants.{Payments}
 
-pub payment-ok : {type : List ℕ} {amount beneficiary : ℕ} → Fit (filled 4) type → T (isTypeIn Payments (typeOf type)) → In 1 maxAmount amount → In 1 maxAccount beneficiary → T (isAccount beneficiary)
+pub payment-ok : {type : List ℕ} {amount beneficiary : ℕ} → Fit (filled 4) type → T (isTypeIn Payments (typeOf type)) → In 1 maxAmount amount → In 1 maxAccount beneficiary → T (isAccount beneficiary) → T (isSevenIf (isUncheckedType (typeOf type)) beneficiary)
     → TransactionOk Payments 123456789 type amount 123456789 beneficiary
 unfolding pick weighted isEleven isOrderingAccount isAccount isOwnIf
-payment-ok fits type amount beneficiary account =
+payment-ok fits type amount beneficiary account seven =
     record {
       type-fits = fits;
       type-in = type;
@@ -23,4 +23,5 @@ payment-ok fits type amount beneficiary account =
       beneficiary-ok = account;
       own-payer = tt;
       own-beneficiary = tt;
+      other-ok = seven;
     }

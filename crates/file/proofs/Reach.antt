@@ -9,7 +9,7 @@ use lib.Dec.{T, eqb, ltb, ltb→lt, eqb→eq}
 use Rattle.machine.specs.Lists.{inRange}
 use Rattle.machine.proofs.Base.{and-l, and-r, of-eq}
 use Rattle.format.specs.Records.{Fields, sequence, unidentified}
-use Rattle.format.specs.Rules.{maxSequence, mostDescriptions, sameGroup, needsName}
+use Rattle.format.specs.Rules.{maxSequence, mostDescriptions, sameGroup, isUncheckedType}
 use Rattle.format.specs.Language.{Follows}
 use Rattle.format.specs.Tests.{isNext}
 use Rattle.format.specs.declared.Kind.{Kind}
@@ -164,7 +164,7 @@ module _ (s : State) (limited : Limited s) (i : LinesAt (s .stage) s) where
   paid-lines : (t : TransactionFields) → T (mayPay (s .stage) (s .item .name)) → LinesAt Item (paid s t)
   unfolding mayPay mayEnd
   paid-lines t a =
-      let z = new-name (needsName (t .kind)) in
+      let z = new-name (isUncheckedType (t .kind)) in
       either (isStage (s .stage) Ordered) (isStage (s .stage) Item && not (isName (s .item .name) Due)) a
       (λ p. let w = at-stage Ordered p in omega arith)
       (λ p. let w = at-stage Item (and-l (isStage (s .stage) Item) (not (isName (s .item .name) Due)) p) in omega (arith, few-names (s .item .name)))

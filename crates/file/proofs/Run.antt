@@ -14,7 +14,6 @@ use Rattle.machine.proofs.Base.{next, drop-take}
 use Rattle.machine.proofs.Base as base
 use Rattle.machine.proofs.Lines.{follow, on-line, run}
 use Rattle.machine.proofs.Lines as lines
-use Rattle.format.specs.Language.{In}
 use Rattle.format.specs.Cutting.{isOpen, cutOf, nextLine, afterNext, linesFrom, linesIn, cut, turn}
 use Rattle.format.specs.Answers.{refusal, acceptance}
 use Rattle.format.specs.declared.Answer.{Answer}
@@ -39,13 +38,13 @@ use Rattle.reading.specs.Step.{refused, taken, judgedLine, takenWith, withCut, 
 use Rattle.reading.specs.Check.{judgedAfter, judgedLines, answerBy, checkOf, restOf}
 use Rattle.reading.proofs.Running.{goingOn, lines-on}
 use Rattle.file.proofs.Places.{phaseIn, phaseOf, contextOf, placeOf, roomOf}
-use Rattle.file.proofs.Lines.{Agrees, goes, stops, line-agrees}
+use Rattle.file.proofs.Lines.{Refusing, of-no-state, Agrees, goes, stops, line-agrees}
 use Rattle.file.proofs.Reach.{Reach, reach-start, reach-line, reach-within, reach-next}
 
 -- the same answer
 pub data Says : Answer → base.Result → Type 0 where
   yes : (n : ℕ) → n ≤ 6999369995 → Says (acceptance n) (base.accepted n)
-  no : (number n column : ℕ) → In 1 11 number → Says (refusal number n column) (base.refused number n column)
+  no : (number n column : ℕ) → Refusing number → Says (refusal number n column) (base.refused number n column)
 
 -- ## The end of a file
 
@@ -90,7 +89,7 @@ unfolding endedAt pick
 at-none j z i true q = rw (eq-eqb (j .number) 0 z, reach-within (j .next) i, q) (yes (j .next .line) (reach-line (j .next) i))
 at-none j z i false q =
     let e : j .next .line + 1 ≡ suc (j .next .line) = omega arith in
-    rw (eq-eqb (j .number) 0 z, reach-within (j .next) i, q, e) (no 10 (suc (j .next .line)) 0 (omega arith))
+    rw (eq-eqb (j .number) 0 z, reach-within (j .next) i, q, e) (no 10 (suc (j .next .line)) 0 (omega arith, refl))
 
 module _ (k : ℕ) (ih : (j : Judged) (b : List ℕ) → length b < k → j .number ≡ 0 → Reach (j .next) → Says (answerBy (judgedAfter j (linesIn b))) (theRun k (placeOf (j .next)) (j .next .before .ending) (j .next .line) b)) (s : State) (i : Reach s) (b : List ℕ) (p : 0 < length b) (l : length b < suc k) where
   -- the answer after a first line
@@ -101,12 +100,12 @@ module _ (k : ℕ) (ih : (j : Judged) (b : List ℕ) → length b < k → j .num
   rest u = theRun k u (turn (s .before .ending) (nextLine b)) (suc (s .line)) (afterNext b)
 
   -- a refusal names the next line
-  refusing : (number column : ℕ) → In 1 11 number → Says (answered (refused s column number)) (base.refused number (suc (s .line)) column)
+  refusing : (number column : ℕ) → Refusing number → Says (answered (refused s column number)) (base.refused number (suc (s .line)) column)
   unfolding pick
   refusing number column h =
       let e : s .line + 1 ≡ suc (s .line) = omega arith in
       let z = ne-eqb number 0 (omega arith) in
-      rw (z, z, ne-eqb number 24 (omega arith), e) (no number (suc (s .line)) column h)
+      rw (z, z, ne-eqb number 24 (of-no-state number (h .1)), e) (no number (suc (s .line)) column h)
 
   at-line : {j : Judged} → Agrees s (take 50 b) j → Reach (withCut (cutOf b) j .next) → Says (answered (withCut (cutOf b) j)) (follow the.State step isEnd cut turn (step (placeOf s) (nextLine b)) (s .line) rest)
   unfolding withCut pick
@@ -120,7 +119,7 @@ module _ (k : ℕ) (ih : (j : Judged) (b : List ℕ) → length b < k → j .num
       (ih j (afterNext b) (simp length-drop (omega (arith, cut-bytes b))) refl r)))
   at-line (stops column number h e) r =
       subst (λ o. Says (answered (withCut (cutOf b) (refused s column number))) (follow the.State step isEnd cut turn o (s .line) rest)) (sym (step-next s b ∙ e))
-      (rw (ne-eqb number 0 (omega arith)) (refusing number column (omega arith)))
+      (rw (ne-eqb number 0 (omega arith)) (refusing number column h))
 
   line : Judged
   line = withCut (cutOf b) (judgedLine s (take 50 b))
@@ -128,7 +127,7 @@ module _ (k : ℕ) (ih : (j : Judged) (b : List ℕ) → length b < k → j .num
   at-whole : (q : Bool) → Reach (pick q line (refused s 0 1) .next) → Says (answered (pick q line (refused s 0 1))) (onCut k s (cond q (some (nextLine b, afterNext b)) none))
   unfolding line pick
   at-whole true r = at-line (line-agrees s (take 50 b)) r
-  at-whole false r = refusing 1 0 (omega arith)
+  at-whole false r = refusing 1 0 (omega arith, refl)
 
   first-line : Judged
   first-line = pick (isOpen (s .before .ending) (cutOf b .ending)) line (refused s 0 1)
@@ -139,7 +138,7 @@ module _ (k : ℕ) (ih : (j : Judged) (b : List ℕ) → length b < k → j .num
 
   at-block : (q : Bool) → isDone s ≡ q → Says (answered (judgedFirst s b)) (cond q (base.refused 11 (suc (s .line)) 0) (onCut k s (cut (s .before .ending) b)))
   unfolding first-line pick
-  at-block true e = subst (λ j. Says (answered j) (base.refused 11 (suc (s .line)) 0)) (sym (judged true e)) (refusing 11 0 (omega arith))
+  at-block true e = subst (λ j. Says (answered j) (base.refused 11 (suc (s .line)) 0)) (sym (judged true e)) (refusing 11 0 (omega arith, refl))
   at-block false e =
       let a = judged false e in
       subst (λ j. Says (answered j) (onCut k s (cut (s .before .ending) b))) (sym a)

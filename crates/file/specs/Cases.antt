@@ -1,4 +1,4 @@
--- 01's cases that are proved (1 to 11), a file without a batch, the example with each line end, and those of 02's request [1], of the definitions that the contracts name, in one table.
+-- 01's cases that are proved (1 to 11), a file without a batch, the example with each line end, and those of 02's requests [1] and [2], of the definitions that the contracts name, in one table.
 use mathlib.Core.Path.{_≡_}
 use mathlib.Core.Bool.{Bool, true, false}
 use mathlib.Core.List.{List, [], _∷_, _++_}
@@ -11,14 +11,15 @@ use Rattle.machine.specs.Texts.{characters}
 use Rattle.descriptions.specs.Texts.{mergeOf}
 use Rattle.format.specs.Rules.{maxAmount, mostDescriptions, weighted, isEleven, isDate, typeText}
 use Rattle.format.specs.Language.{File, Rec, batchHeaderRec, batchTrailerRec, crlf, endBytes, lineOf, Reads}
-use Rattle.format.specs.Answers.{accepted, brokenLine, misplacedRecord, wrongForm, wrongValue, wrongAccount, differs, aboveMaximum, endsEarly, refusal, acceptance}
+use Rattle.format.specs.Answers.{accepted, brokenLine, misplacedRecord, wrongForm, wrongValue, wrongAccount, differs, aboveMaximum, endsEarly, ordinaryAccount, refusal, acceptance}
 use Rattle.format.specs.declared.Answer.{Answer}
 use Rattle.format.specs.declared.EndingSoFar.{EndingSoFar}
 use Rattle.format.specs.declared.EndingSoFar.the-variants.{Unknown, CrLf, Lf}
 use Rattle.format.specs.declared.Kind.the-variants.{Transaction}
 use Rattle.format.specs.declared.Group.{Group}
 use Rattle.format.specs.declared.Group.the-variants.{Payments, Debits}
-use Rattle.format.specs.declared.TransactionType.the-variants.{Salary, Debit}
+use Rattle.format.specs.declared.TransactionType.{TransactionType}
+use Rattle.format.specs.declared.TransactionType.the-variants.{UncheckedCreditor, UncheckedSalary, Creditor, Salary, Debit, UncheckedDebit}
 use Rattle.record.specs.Faults.{nothingBefore, afterHeader, faultAt, noFault, faultOf}
 use Rattle.record.specs.declared.Before.{Before}
 use Rattle.record.specs.declared.Batch.{Batch}
@@ -57,19 +58,29 @@ after g sequence = afterHeader nothingBefore g sequence
 abbrev batch : ℕ → ℕ → ℕ → Batch
 batch items total accounts = record { account = 123456789; items = items; total = total; accounts = accounts; fixed = 0 }
 
--- an item of it: a payment to 111111110, a debit from an account
+-- an item: its type, amount, payer and beneficiary
+abbrev item : TransactionType → ℕ → ℕ → ℕ → Rec
+item type amount payer beneficiary = (Transaction, (typeText type, (amount, (payer, (beneficiary, (tt, tt))))))
+
+-- items of it: a payment to 111111110; of a type and one cent, a payment to an account and a debit from one
 abbrev payment : ℕ → Rec
-payment amount = (Transaction, (typeText Salary, (amount, (123456789, (111111110, (tt, tt))))))
+payment amount = item Salary amount 123456789 111111110
+
+abbrev paymentTo : TransactionType → ℕ → Rec
+paymentTo type beneficiary = item type 1 123456789 beneficiary
+
+abbrev debitFrom : TransactionType → ℕ → Rec
+debitFrom type payer = item type 1 payer 123456789
 
 abbrev debit : ℕ → Rec
-debit payer = (Transaction, (typeText Debit, (1, (payer, (123456789, (tt, tt))))))
+debit payer = debitFrom Debit payer
 
 abbrev header : ℕ → Rec
 header sequence = batchHeaderRec Payments 123456789 sequence none
 
 -- an item of one cent, and the trailer after it
 abbrev cent : ℕ → ℕ → Rec
-cent payer beneficiary = (Transaction, (typeText Salary, (1, (payer, (beneficiary, (tt, tt))))))
+cent payer beneficiary = item Salary 1 payer beneficiary
 
 abbrev trailer : ℕ → Rec
 trailer accounts = batchTrailerRec 1 accounts 1
@@ -204,5 +215,19 @@ endingCases =
     ∷ firstLine [] 0 Unknown
     ∷ []
 
+-- 02's [2]: 0000 to a seven-digit account, to one of nine digits and to one of ten; 1002 from one of nine, and before its beneficiary; 0005; eight digits, which 6 is for; and the example with 123456789 as the beneficiary of its line 6
+abbrev pub uncheckedCases : List Case
+uncheckedCases =
+    line (after Payments 1) (batch 0 0 0) (paymentTo UncheckedCreditor 9999999) noFault
+    ∷ line (after Payments 1) (batch 0 0 0) (paymentTo UncheckedCreditor 123456789) (faultAt 32 ordinaryAccount)
+    ∷ line (after Payments 1) (batch 0 0 0) (paymentTo UncheckedCreditor 1000000001) (faultAt 32 ordinaryAccount)
+    ∷ line (after Debits 1) (batch 0 0 0) (debitFrom UncheckedDebit 9999999) noFault
+    ∷ line (after Debits 1) (batch 0 0 0) (debitFrom UncheckedDebit 123456789) (faultAt 22 ordinaryAccount)
+    ∷ line (after Debits 1) (batch 0 0 0) (item UncheckedDebit 1 111111110 111111110) (faultAt 22 ordinaryAccount)
+    ∷ line (after Payments 1) (batch 0 0 0) (paymentTo Creditor 123456789) noFault
+    ∷ line (after Payments 1) (batch 0 0 0) (paymentTo UncheckedSalary 12345678) (faultAt 32 wrongAccount)
+    ∷ file (take 291 (example end1310) ++ (characters "0123456789" ++ drop 301 (example end1310))) (refusal ordinaryAccount 6 32)
+    ∷ []
+
 abbrev pub cases : List (List Case)
-cases = accountCases ∷ amountCases ∷ sumCases ∷ dateCases ∷ descriptionCases ∷ sequenceCases ∷ orderCases ∷ fileCases ∷ endingCases ∷ []
+cases = accountCases ∷ amountCases ∷ sumCases ∷ dateCases ∷ descriptionCases ∷ sequenceCases ∷ orderCases ∷ fileCases ∷ endingCases ∷ uncheckedCases ∷ []

@@ -1,10 +1,11 @@
 -- What the answer of a whole file means: the language's theorem, of an answer.
 use mathlib.Core.Path.{_≡_}
 use mathlib.Core.Logic.{_↔_, _≢_}
+use mathlib.Core.Bool.{true}
 use mathlib.Core.List.{List}
-use Prim.Native.Nat.{ℕ, _≤_}
+use Prim.Native.Nat.{ℕ}
 use Rattle.format.specs.Language.{File, fileRecs, Reads}
-use Rattle.format.specs.Answers.{accepted, afterTrailer}
+use Rattle.format.specs.Answers.{accepted, isOfFile}
 use Rattle.format.specs.Cutting.{AreLines}
 use Rattle.format.specs.Statements.{InLanguage, RefusalTells}
 use Rattle.format.specs.declared.Answer.{Answer}
@@ -21,5 +22,5 @@ pub record Means (b : List ℕ) (a : Answer) : Type 0 where
   pub each-counted : (f : File) → Reads b f → EachCounted (fileRecs f)
   -- WHAT A REFUSAL TELLS: the lines before the one named can be completed, and with it they cannot, unless it is broken or lacking
   pub refusal : a .number ≢ accepted → RefusalTells b (a .number) (a .line)
-  -- the answers of a file are 0 to 11
-  pub numbers : a .number ≤ afterTrailer
+  -- the answers of a file are 0 to 11, and 14
+  pub numbers : isOfFile (a .number) ≡ true

@@ -1,6 +1,6 @@
 -- COMPLETE: the reader takes the records of a valid file to its end.
 use mathlib.Core.Path.{_≡_, refl, sym, ap, _∙_, subst}
-use mathlib.Core.Bool.{Bool, true, false, _||_}
+use mathlib.Core.Bool.{Bool, true, false, not, _&&_, _||_}
 use mathlib.Core.List.{List, [], _∷_}
 use mathlib.Core.Option.{Option, none, some}
 use Prim.Native.Nat.{ℕ, zero, suc, _+_, _≤_, _<_}
@@ -12,8 +12,8 @@ use Rattle.machine.specs.Lists.{same, inRange}
 use Rattle.machine.proofs.Base.{and-i, same-refl}
 use Rattle.format.specs.Fields.{filled, Fit, Fits}
 use Rattle.format.specs.Records.{layout, Fields}
-use Rattle.format.specs.Rules.{maxAmount, maxTotal, maxItems, maxAccount, maxSequence, maxFixed, mostDescriptions, CLIEOP03, EUR, groupText, isGroup, groupOf, typeOf, isType, isTypeIn, needsName}
-use Rattle.format.specs.Language.{Name, Item, Batch, File, totalOf, accountsOf, tenDigits, Rec, fileHeaderRec, batchHeaderRec, fixedRecs, orderingPartyRec, transactionRec, referenceRecs, descriptionRecs, cityRecs, nameRecs, itemRecs, batchesRecs, fileTrailerRecs, fileRecs, In, TransactionOk, ReferenceOk, DescriptionsOk, CityOk, NameOk, isSome, ItemOk, ItemsOk, Before, noneBefore, afterThat, Follows, BatchHeaderOk, OrderingPartyOk, BatchOk, BatchesOk, Valid}
+use Rattle.format.specs.Rules.{maxAmount, maxTotal, maxItems, maxAccount, maxSequence, maxFixed, mostDescriptions, CLIEOP03, EUR, isSevenIf, sameGroup, groupText, isGroup, groupOf, typeOf, isType, isTypeIn, isUncheckedType}
+use Rattle.format.specs.Language.{Name, Item, Batch, File, totalOf, accountsOf, tenDigits, Rec, fileHeaderRec, batchHeaderRec, fixedRecs, orderingPartyRec, transactionRec, referenceRecs, descriptionRecs, cityRecs, nameRecs, itemRecs, batchesRecs, fileTrailerRecs, fileRecs, In, otherParty, TransactionOk, ReferenceOk, DescriptionsOk, CityOk, NameOk, isSome, ItemOk, ItemsOk, Before, noneBefore, afterThat, Follows, BatchHeaderOk, OrderingPartyOk, BatchOk, BatchesOk, Valid}
 use Rattle.format.specs.Tests.{isNext, sameGroupTests, batchHeaderTests, transactionTests}
 use Rattle.format.specs.declared.Kind.the-variants.{FileHeader, BatchHeaderB, BatchHeaderC, FixedDescription, OrderingParty, Transaction, NamePayer, CityPayer, PaymentReference, Description, NameBeneficiary, CityBeneficiary, BatchTrailer, FileTrailer}
 use Rattle.format.specs.declared.Group.{Group}
@@ -93,13 +93,13 @@ module _ (s : Context) (k : List Rec) where
 
 -- ## Items
 
-item-path : (g : Group) (s : Context) (i : Item) (k : List Rec) → {own : ℕ} → ItemOk g own i → ((p : Phase) → MayEnd p g → Path (at p s) k) → Path (at (opens g (needsName (typeOf (i .type)))) s) (itemRecs g i k)
+item-path : (g : Group) (s : Context) (i : Item) (k : List Rec) → {own : ℕ} → ItemOk g own i → ((p : Phase) → MayEnd p g → Path (at p s) k) → Path (at (opens g (isUncheckedType (typeOf (i .type)))) s) (itemRecs g i k)
 item-path Payments s i k o q =
-    let n = needsName (typeOf (i .type)) in
+    let n = isUncheckedType (typeOf (i .type)) in
     let named = beneficiary-path s k n (i .name) (o .name-ok) q in
     texts-path (payment-texts s n) (nameRecs Payments (i .name) k) named named (i .reference) (i .descriptions) (o .room) (o .reference-ok) (o .descriptions-ok)
 item-path Debits s i k o q =
-    payer-path s (referenceRecs (i .reference) (descriptionRecs (i .descriptions) k)) (needsName (typeOf (i .type))) (i .name) (o .name-ok)
+    payer-path s (referenceRecs (i .reference) (descriptionRecs (i .descriptions) k)) (isUncheckedType (typeOf (i .type))) (i .name) (o .name-ok)
     (λ c. texts-path (debit-texts s c) k (λ r. q (owed c r) open-debit) (λ r. q (owed false r) open-debit) (i .reference) (i .descriptions) (o .room) (o .reference-ok) (o .descriptions-ok))
 
 abbrev fieldsOf : Item → Fields Transaction
@@ -109,14 +109,25 @@ is-type : (g : Group) (t : TypeRead) → T (isTypeIn g t) → T (isType t)
 is-type g (Of y) h = tt
 is-type g NoType h = absurd h
 
+module _ (unchecked : Bool) (i : Item) where
+  payer-seven : (g : Group) → T (isSevenIf unchecked (otherParty g (i .payer) (i .beneficiary))) → T (isSevenIf (not (sameGroup Payments g) && unchecked) (i .payer))
+  unfolding isSevenIf
+  payer-seven Payments h = tt
+  payer-seven Debits h = h
+
+  beneficiary-seven : (g : Group) → T (isSevenIf unchecked (otherParty g (i .payer) (i .beneficiary))) → T (isSevenIf (not (sameGroup Debits g) && unchecked) (i .beneficiary))
+  unfolding isSevenIf
+  beneficiary-seven Payments h = h
+  beneficiary-seven Debits h = tt
+
 transaction-holds : (g : Group) (own : ℕ) (i : Item) → TransactionOk g own (i .type) (i .amount) (i .payer) (i .beneficiary) → Holds (layout Transaction) (transactionTests g own (fieldsOf i))
-transaction-holds g own i o = (
+transaction-holds g own i o = let u = isUncheckedType (typeOf (i .type)) in (
   (is-type g (typeOf (i .type)) (o .type-in), (o .type-in, tt)),
   (
     (In→inRange 1 maxAmount (i .amount) (o .amount-in), tt),
     (
-      (In→inRange 1 maxAccount (i .payer) (o .payer-in), (o .payer-ok, (o .own-payer, tt))),
-      ((In→inRange 1 maxAccount (i .beneficiary) (o .beneficiary-in), (o .beneficiary-ok, (o .own-beneficiary, tt))), (tt, tt)),
+      (In→inRange 1 maxAccount (i .payer) (o .payer-in), (o .payer-ok, (o .own-payer, (payer-seven u i g (o .other-ok), tt)))),
+      ((In→inRange 1 maxAccount (i .beneficiary) (o .beneficiary-in), (o .beneficiary-ok, (o .own-beneficiary, (beneficiary-seven u i g (o .other-ok), tt)))), (tt, tt)),
     ),
   ),
 )

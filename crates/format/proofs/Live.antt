@@ -11,8 +11,8 @@ use Rattle.machine.specs.Lists.{pick, same}
 use Rattle.machine.specs.Digits.{valueAfter}
 use Rattle.format.specs.Fields.{filled, Fit}
 use Rattle.format.specs.Records.{layout, Fields, orderingAccount, unidentified, type, amount, payer, beneficiary}
-use Rattle.format.specs.Rules.{maxAmount, maxTotal, maxItems, maxAccount, maxFixed, isTestCode, daysIn, isDate, isDesiredDate, isIdentification, isOfDay, weighted, isEleven, isOrderingAccount, isAccount, isOwnIf, isNameCodeIn, sameGroup, typeText, typeOf, isTypeIn, needsName}
-use Rattle.format.specs.Language.{Item, Rec, fileHeaderRec, fileTrailerRecs, In, NameOk, ItemOk, Before, noneBefore, afterThat, Follows, BatchHeaderOk, OrderingPartyOk}
+use Rattle.format.specs.Rules.{maxAmount, maxTotal, maxItems, maxAccount, maxFixed, isTestCode, daysIn, isDate, isDesiredDate, isIdentification, isOfDay, weighted, isEleven, isOrderingAccount, isAccount, isOwnIf, isSevenIf, isNameCodeIn, sameGroup, typeText, typeOf, isTypeIn, isUncheckedType}
+use Rattle.format.specs.Language.{Item, Rec, fileHeaderRec, fileTrailerRecs, In, otherParty, NameOk, ItemOk, Before, noneBefore, afterThat, Follows, BatchHeaderOk, OrderingPartyOk}
 use Rattle.format.specs.Tests.{batchHeaderTests, transactionTests}
 use Rattle.format.specs.declared.Kind.{Kind}
 use Rattle.format.specs.declared.Kind.the-variants.{FileHeader, BatchHeaderB, Transaction, NamePayer, NameBeneficiary}
@@ -57,7 +57,7 @@ item-begun g s x h m =
     let c = ltb→lt (s .count) maxItems (m .0) in
     let t = leb→le (s .total + amount x) maxTotal (m .1 .0) in
     let n = inRange→In 1 maxAmount (amount x) (h .1 .0 .0) in
-    going g (needsName (typeOf (type x))) (addItem s (amount x) (payer x) (beneficiary x)) (omega arith)
+    going g (isUncheckedType (typeOf (type x))) (addItem s (amount x) (payer x) (beneficiary x)) (omega arith)
 
 batch-begun : (o : Option Group) (s : Context) (x : Fields BatchHeaderB) → Holds (layout BatchHeaderB) (batchHeaderTests o (s .before .sequence) x) → Invariant (beginBatch s x)
 batch-begun o s x h = (inRange→In 1 maxAccount (orderingAccount x) (h .1 .0 .0), h .1 .0 .1 .0, refl, refl, refl)
@@ -130,10 +130,16 @@ unfolding aType typeOf pick same
 type-in Payments = tt
 type-in Debits = tt
 
-nameless : (g : Group) → NameOk (needsName (typeOf (typeText (aType g)))) none
+nameless : (g : Group) → NameOk (isUncheckedType (typeOf (typeText (aType g)))) none
 unfolding aType typeOf pick same
 nameless Payments = tt
 nameless Debits = tt
+
+-- of a checked type, so to any account
+other-any : (g : Group) (n : ℕ) → T (isSevenIf (isUncheckedType (typeOf (typeText (aType g)))) n)
+unfolding aType isSevenIf typeOf pick same
+other-any Payments n = tt
+other-any Debits n = tt
 
 or-r : (a b : Bool) → T b → T (a || b)
 or-r true b t = tt
@@ -158,6 +164,7 @@ item-ok g own h o =
             beneficiary-ok = is-account own o;
             own-payer = own-party (sameGroup Payments g) own;
             own-beneficiary = own-party (sameGroup Debits g) own;
+            other-ok = other-any g (otherParty g own own);
           };
       reference-ok = tt;
       descriptions-ok = tt;

@@ -8,7 +8,7 @@ use Rattle.machine.specs.Lists.{same}
 use Rattle.machine.proofs.Base.{Outcome, refuse}
 use Rattle.format.specs.Fields.{Fits, readFields}
 use Rattle.format.specs.Records.{layout, code, Fields, group, orderingAccount, sequence, unidentified, type, amount, payer, beneficiary}
-use Rattle.format.specs.Rules.{maxFixed, groupOf, typeOf, needsName}
+use Rattle.format.specs.Rules.{maxFixed, groupOf, typeOf, isUncheckedType}
 use Rattle.format.specs.Language.{Rec, tenDigits, Before, noneBefore, afterThat}
 use Rattle.format.specs.Answers.{unknownRecord, misplacedRecord}
 use Rattle.format.specs.Tests.{Check, Tests, untested, fileHeaderTests, batchHeaderTests, orderingPartyTests, transactionTests, batchTrailerTests, batchMaxima}
@@ -151,7 +151,7 @@ abbrev pub addItem : Context → ℕ → ℕ → ℕ → Context
 addItem s amount payer beneficiary = record { account = s .account; before = s .before; total = s .total + amount; accounts = tenDigits (s .accounts + payer + beneficiary); count = suc (s .count) }
 
 abbrev pub beginItem : Group → Context → Fields Transaction → State
-beginItem g s x = at (opens g (needsName (typeOf (type x)))) (addItem s (amount x) (payer x) (beneficiary x))
+beginItem g s x = at (opens g (isUncheckedType (typeOf (type x)))) (addItem s (amount x) (payer x) (beneficiary x))
 
 abbrev pub beginBatch : Context → Fields BatchHeaderB → State
 beginBatch s x = at (opened (groupOf (group x)) maxFixed) (newBatch (orderingAccount x) (afterThat (s .before) (sequence x)))

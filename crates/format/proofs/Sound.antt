@@ -1,6 +1,6 @@
 -- SOUND: records that the reader takes to its end are those of a valid file. What is left of the file is said for each phase, and one record more in front is shown for each place.
 use mathlib.Core.Path.{_≡_, refl, sym, ap, ap₂, _∙_, subst}
-use mathlib.Core.Bool.{Bool, true, false, _||_}
+use mathlib.Core.Bool.{Bool, true, false, not, _&&_, _||_}
 use mathlib.Core.List.{List, [], _∷_}
 use mathlib.Core.Option.{Option, none, some}
 use Prim.Native.Nat.{ℕ, zero, suc, _+_, _≤_, _<_}
@@ -12,8 +12,8 @@ use Rattle.machine.specs.Lists.{pick, same, inRange}
 use Rattle.machine.proofs.Base.{and-l, and-r, same→eq}
 use Rattle.format.specs.Fields.{filled, Fit, Fits}
 use Rattle.format.specs.Records.{layout, Fields, creationDate, fileName, sender, identification, duplicateCode, group, orderingAccount, sequence, currency, batchIdentification, unidentified, nameCode, desiredDate, partyName, testCode, type, amount, payer, beneficiary, totalAmount, totalAccounts, items}
-use Rattle.format.specs.Rules.{maxAmount, maxTotal, maxItems, maxAccount, maxSequence, maxFixed, mostDescriptions, CLIEOP03, EUR, groupText, isGroup, groupOf, typeOf, needsName}
-use Rattle.format.specs.Language.{Name, Item, Batch, File, totalOf, accountsOf, tenDigits, Rec, fileHeaderRec, batchHeaderRec, fixedRecs, transactionRec, referenceRecs, descriptionRecs, cityRecs, nameRecs, itemRecs, itemsRecs, batchTrailerRec, batchesRecs, fileTrailerRecs, fileRecs, In, TransactionOk, ReferenceOk, DescriptionsOk, CityOk, NameOk, isSome, ItemOk, ItemsOk, Before, afterThat, Follows, IdentificationOk, BatchHeaderOk, OrderingPartyOk, BatchesOk, FileHeaderOk, Valid}
+use Rattle.format.specs.Rules.{maxAmount, maxTotal, maxItems, maxAccount, maxSequence, maxFixed, mostDescriptions, CLIEOP03, EUR, isSevenIf, sameGroup, groupText, isGroup, groupOf, typeOf, isUncheckedType}
+use Rattle.format.specs.Language.{Name, Item, Batch, File, totalOf, accountsOf, tenDigits, Rec, fileHeaderRec, batchHeaderRec, fixedRecs, transactionRec, referenceRecs, descriptionRecs, cityRecs, nameRecs, itemRecs, itemsRecs, batchTrailerRec, batchesRecs, fileTrailerRecs, fileRecs, In, otherParty, TransactionOk, ReferenceOk, DescriptionsOk, CityOk, NameOk, isSome, ItemOk, ItemsOk, Before, afterThat, Follows, IdentificationOk, BatchHeaderOk, OrderingPartyOk, BatchesOk, FileHeaderOk, Valid}
 use Rattle.format.specs.Tests.{isNext, sameGroupTests, batchHeaderTests, transactionTests, batchTrailerTests}
 use Rattle.format.specs.declared.Kind.{Kind}
 use Rattle.format.specs.declared.Kind.the-variants.{FileHeader, BatchHeaderB, BatchHeaderC, FixedDescription, OrderingParty, Transaction, NamePayer, PaymentReference, Description, NameBeneficiary, BatchTrailer, FileTrailer}
@@ -180,6 +180,12 @@ module _ (More : List Rec → Type 0) where
 
 -- ## A transaction in front
 
+-- the other party is one of the two, by the group
+other-seven : (g : Group) (unchecked : Bool) (p b : ℕ) → T (isSevenIf (not (sameGroup Payments g) && unchecked) p) → T (isSevenIf (not (sameGroup Debits g) && unchecked) b)
+    → T (isSevenIf unchecked (otherParty g p b))
+other-seven Payments unchecked p b hp hb = hb
+other-seven Debits unchecked p b hp hb = hp
+
 transaction-facts : (g : Group) (own : ℕ) (x : Fields Transaction) → Fits (layout Transaction) x → Holds (layout Transaction) (transactionTests g own x) → TransactionOk g own (type x) (amount x) (payer x) (beneficiary x)
 transaction-facts g own x f h =
     record {
@@ -192,6 +198,7 @@ transaction-facts g own x f h =
       beneficiary-ok = h .1 .1 .1 .0 .1 .0;
       own-payer = h .1 .1 .0 .1 .1 .0;
       own-beneficiary = h .1 .1 .1 .0 .1 .1 .0;
+      other-ok = other-seven g (isUncheckedType (typeOf (type x))) (payer x) (beneficiary x) (h .1 .1 .0 .1 .1 .1 .0) (h .1 .1 .1 .0 .1 .1 .1 .0);
     }
 
 pub trailed-same : (g : Group) (is : List Item) (bs : List Batch) {n m a b c d : ℕ} → n ≡ m → a ≡ b → c ≡ d → trailed g is n a c bs ≡ trailed g is m b d bs
@@ -227,18 +234,18 @@ item-edge Payments s rs x o b =
     item-front Payments s rs (n .rest) (itemOf x (b .reference) (b .descriptions) (n .name))
     (record { transaction-ok = o; reference-ok = b .reference-ok; descriptions-ok = b .descriptions-ok; room = b .room; name-ok = n .name-ok }) (n .more)
     (b .equal ∙ ap (λ k. referenceRecs (b .reference) (descriptionRecs (b .descriptions) k)) (n .equal))
-item-edge Debits s rs x o b = by (needsName (typeOf (type x))) refl b
+item-edge Debits s rs x o b = by (isUncheckedType (typeOf (type x))) refl b
   where
     s′ : Context
     s′ = addItem s (amount x) (payer x) (beneficiary x)
 
-    item : (n : Option Name) (rs k : List Rec) → NameOk (needsName (typeOf (type x))) n → rs ≡ nameRecs Debits n k → TextsLeft (ItemsLeft Debits s′) fresh k → ItemsLeft Debits s ((Transaction, x) ∷ rs)
+    item : (n : Option Name) (rs k : List Rec) → NameOk (isUncheckedType (typeOf (type x))) n → rs ≡ nameRecs Debits n k → TextsLeft (ItemsLeft Debits s′) fresh k → ItemsLeft Debits s ((Transaction, x) ∷ rs)
     item n rs k ok e b =
         item-front Debits s rs (b .rest) (itemOf x (b .reference) (b .descriptions) n)
         (record { transaction-ok = o; reference-ok = b .reference-ok; descriptions-ok = b .descriptions-ok; room = b .room; name-ok = ok }) (b .more)
         (e ∙ ap (nameRecs Debits n) (b .equal))
 
-    by : (q : Bool) → needsName (typeOf (type x)) ≡ q → Rest (at (opens Debits q) s′) rs → ItemsLeft Debits s ((Transaction, x) ∷ rs)
+    by : (q : Bool) → isUncheckedType (typeOf (type x)) ≡ q → Rest (at (opens Debits q) s′) rs → ItemsLeft Debits s ((Transaction, x) ∷ rs)
     by true q b = item (b .name) rs (b .rest) (subst (λ q. NameOk q (b .name)) (sym q) (b .name-ok)) (b .equal) (b .more)
     by false q b = item none rs (b .rest) (subst (λ q. NameOk q none) (sym q) tt) (b .equal ∙ ap (λ c. cityRecs Debits c (b .rest)) (b .city-if)) (b .more)
 

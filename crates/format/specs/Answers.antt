@@ -1,5 +1,7 @@
 -- The answers of 01's table by name, and an answer with its line and column.
+use mathlib.Core.Bool.{Bool, _||_}
 use Prim.Native.Nat.{ℕ}
+use lib.Dec.{leb, eqb}
 use Rattle.format.specs.declared.Answer.{Answer}
 
 abbrev pub accepted : ℕ
@@ -57,9 +59,17 @@ noRoom = 12
 abbrev pub noSuchItem : ℕ
 noSuchItem = 13
 
+-- 'unchecked type with an account of nine or ten digits' (02)
+abbrev pub ordinaryAccount : ℕ
+ordinaryAccount = 14
+
 -- 'a state handed in' beyond 01's limits
 abbrev pub beyondLimits : ℕ
 beyondLimits = 24
+
+-- what a file can be answered: 0 to 11, and 14; the others are of rooms, items and states
+abbrev pub isOfFile : ℕ → Bool
+isOfFile number = leb number afterTrailer || eqb number ordinaryAccount
 
 abbrev pub refusal : ℕ → ℕ → ℕ → Answer
 refusal number line column = record { number = number; line = line; column = column }

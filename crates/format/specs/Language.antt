@@ -8,7 +8,7 @@ use lib.ListN.{length}
 use lib.Dec.{T}
 use Rattle.format.specs.Fields.{filled, optional, free, writeFields, Fit}
 use Rattle.format.specs.Records.{layout, code, Fields}
-use Rattle.format.specs.Rules.{maxAmount, maxTotal, maxItems, maxAccount, maxSequence, maxFixed, mostDescriptions, CLIEOP03, EUR, isTestCode, isDate, isDesiredDate, isIdentification, isOfDay, isOrderingAccount, isAccount, isOwnIf, sameGroup, groupText, isNameCodeIn, typeOf, isTypeIn, needsName}
+use Rattle.format.specs.Rules.{maxAmount, maxTotal, maxItems, maxAccount, maxSequence, maxFixed, mostDescriptions, CLIEOP03, EUR, isTestCode, isDate, isDesiredDate, isIdentification, isOfDay, isOrderingAccount, isAccount, isOwnIf, isSevenIf, sameGroup, groupText, isNameCodeIn, typeOf, isTypeIn, isUncheckedType}
 use Rattle.format.specs.declared.Kind.{Kind}
 use Rattle.format.specs.declared.Kind.the-variants.{FileHeader, BatchHeaderB, BatchHeaderC, FixedDescription, OrderingParty, Transaction, NamePayer, CityPayer, PaymentReference, Description, NameBeneficiary, CityBeneficiary, BatchTrailer, FileTrailer}
 use Rattle.format.specs.declared.Group.{Group}
@@ -135,6 +135,11 @@ fileRecs f = fileHeaderRec (f .created) (f .sender) (f .identification) (f .dupl
 abbrev pub In : ℕ → ℕ → ℕ → Type 0
 In low high n = (low ≤ n) × (n ≤ high)
 
+-- of payer and beneficiary the one that is not the ordering account: 'Beneficiary in group 00, payer in group 10' (02)
+abbrev pub otherParty : Group → ℕ → ℕ → ℕ
+otherParty Payments payer beneficiary = beneficiary
+otherParty Debits payer beneficiary = payer
+
 pub record TransactionOk (g : Group) (account : ℕ) (type : List ℕ) (amount payer beneficiary : ℕ) : Type 0 where
   pub type-fits : Fit (filled 4) type
   pub type-in : T (isTypeIn g (typeOf type))
@@ -145,6 +150,7 @@ pub record TransactionOk (g : Group) (account : ℕ) (type : List ℕ) (amount p
   pub beneficiary-ok : T (isAccount beneficiary)
   pub own-payer : T (isOwnIf (sameGroup Payments g) account payer)
   pub own-beneficiary : T (isOwnIf (sameGroup Debits g) account beneficiary)
+  pub other-ok : T (isSevenIf (isUncheckedType (typeOf type)) (otherParty g payer beneficiary))
 
 abbrev pub ReferenceOk : Option (List ℕ) → Type 0
 ReferenceOk none = Unit {0}
@@ -174,7 +180,7 @@ pub record ItemOk (g : Group) (account : ℕ) (i : Item) : Type 0 where
   pub reference-ok : ReferenceOk (i .reference)
   pub descriptions-ok : DescriptionsOk (i .descriptions)
   pub room : length (i .descriptions) ≤ mostDescriptions (isSome (i .reference))
-  pub name-ok : NameOk (needsName (typeOf (i .type))) (i .name)
+  pub name-ok : NameOk (isUncheckedType (typeOf (i .type))) (i .name)
 
 abbrev pub ItemsOk : Group → ℕ → List Item → Type 0
 ItemsOk g account [] = Unit {0}

@@ -98,14 +98,23 @@ isEleven n = eqb (weighted 10 1 n % 11) 0
 unfoldable pub isOrderingAccount : ℕ → Bool
 isOrderingAccount n = leb 100000000 n && isEleven n
 
--- or at most seven, untested
+-- '1 to 9,999,999 is a seven-digit account'
+abbrev pub isSevenDigits : ℕ → Bool
+isSevenDigits n = leb n 9999999
+
+-- those, or seven digits, untested
 unfoldable pub isAccount : ℕ → Bool
-isAccount n = leb n 9999999 || isOrderingAccount n
+isAccount n = isSevenDigits n || isOrderingAccount n
 
 -- 'Payer (group 00) or beneficiary (group 10) equals the ordering account': the own account, where it has to be
 unfoldable pub isOwnIf : Bool → ℕ → ℕ → Bool
 isOwnIf true own n = eqb n own
 isOwnIf false own n = true
+
+-- 'gives 0000, 0003 and 1002 to seven-digit accounts only' (02): the other party, where the type is unchecked
+unfoldable pub isSevenIf : Bool → ℕ → Bool
+isSevenIf true n = isSevenDigits n
+isSevenIf false n = true
 
 -- ## Groups and types
 
@@ -165,7 +174,7 @@ abbrev pub isTypeIn : Group → TypeRead → Bool
 isTypeIn g (Of y) = sameGroup g (typeGroup y)
 isTypeIn g NoType = false
 
--- 'the name record must be there' for 0000, 0003 and 1002
+-- 'Types 0000, 0003 (group 00) and 1002 (group 10) are unchecked'
 abbrev pub isUnchecked : TransactionType → Bool
 isUnchecked UncheckedCreditor = true
 isUnchecked UncheckedSalary = true
@@ -174,6 +183,6 @@ isUnchecked Salary = false
 isUnchecked Debit = false
 isUnchecked UncheckedDebit = true
 
-abbrev pub needsName : TypeRead → Bool
-needsName (Of y) = isUnchecked y
-needsName NoType = false
+abbrev pub isUncheckedType : TypeRead → Bool
+isUncheckedType (Of y) = isUnchecked y
+isUncheckedType NoType = false

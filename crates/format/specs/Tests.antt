@@ -1,5 +1,5 @@
 -- What is tested of each field's value, field by field in the order of the record table: each test with the answer where it fails (01, 'Field rules' and 'Answers').
-use mathlib.Core.Bool.{Bool, _||_}
+use mathlib.Core.Bool.{Bool, not, _&&_, _||_}
 use mathlib.Core.List.{List, [], _∷_}
 use mathlib.Core.Option.{Option, none, some}
 use Prim.Native.Nat.{ℕ, suc, _+_}
@@ -7,8 +7,8 @@ use lib.Dec.{leb, ltb, eqb}
 use Rattle.machine.specs.Lists.{same, inRange}
 use Rattle.format.specs.Fields.{Field}
 use Rattle.format.specs.Records.{layout, Fields, creationDate, fileName, identification, duplicateCode, group, orderingAccount, sequence, currency, nameCode, desiredDate, testCode, type, amount, payer, beneficiary, totalAmount, totalAccounts, items}
-use Rattle.format.specs.Rules.{maxAmount, maxTotal, maxItems, maxAccount, maxSequence, CLIEOP03, EUR, isTestCode, isDate, isDesiredDate, isIdentification, isOfDay, isOrderingAccount, isAccount, isOwnIf, sameGroup, groupText, isGroup, isNameCodeIn, typeOf, isType, isTypeIn}
-use Rattle.format.specs.Answers.{wrongValue, wrongAccount, differs, aboveMaximum, wrongTrailer}
+use Rattle.format.specs.Rules.{maxAmount, maxTotal, maxItems, maxAccount, maxSequence, CLIEOP03, EUR, isTestCode, isDate, isDesiredDate, isIdentification, isOfDay, isOrderingAccount, isAccount, isOwnIf, isSevenIf, sameGroup, groupText, isGroup, isNameCodeIn, typeOf, isType, isTypeIn, isUncheckedType}
+use Rattle.format.specs.Answers.{wrongValue, wrongAccount, differs, aboveMaximum, wrongTrailer, ordinaryAccount}
 use Rattle.format.specs.declared.Kind.the-variants.{FileHeader, BatchHeaderB, OrderingParty, Transaction, BatchTrailer}
 use Rattle.format.specs.declared.Group.{Group}
 use Rattle.format.specs.declared.Group.the-variants.{Payments, Debits}
@@ -79,9 +79,10 @@ typeTests g t = test (isType t) wrongValue ∷ test (isTypeIn g t) differs ∷ [
 abbrev pub amountTests : ℕ → List Test
 amountTests = rangeTests 1 maxAmount
 
--- by whether it has to be the own account
-abbrev pub partyTests : Bool → ℕ → ℕ → List Test
-partyTests mine own v = rangeTest 1 maxAccount v ∷ test (isAccount v) wrongAccount ∷ test (isOwnIf mine own v) differs ∷ []
+-- by whether it has to be the own account, and whether the type is unchecked: 14 comes 'after 7 on the same field' (02)
+abbrev pub partyTests : Bool → ℕ → Bool → ℕ → List Test
+partyTests mine own unchecked v =
+    rangeTest 1 maxAccount v ∷ test (isAccount v) wrongAccount ∷ test (isOwnIf mine own v) differs ∷ test (isSevenIf (not mine && unchecked) v) ordinaryAccount ∷ []
 
 -- a trailer's number, which may be zero or not
 abbrev pub equalTests : ℕ → ℕ → List Test
@@ -112,7 +113,8 @@ orderingPartyTests g x = (nameCodeTests g (nameCode x), (desiredTests (desiredDa
 
 abbrev pub transactionTests : Group → ℕ → Fields Transaction → Tests (layout Transaction)
 transactionTests g own x =
-    (typeTests g (typeOf (type x)), (amountTests (amount x), (partyTests (sameGroup Payments g) own (payer x), (partyTests (sameGroup Debits g) own (beneficiary x), ([], tt)))))
+    let unchecked = isUncheckedType (typeOf (type x)) in
+    (typeTests g (typeOf (type x)), (amountTests (amount x), (partyTests (sameGroup Payments g) own unchecked (payer x), (partyTests (sameGroup Debits g) own unchecked (beneficiary x), ([], tt)))))
 
 abbrev pub batchTrailerTests : ℕ → ℕ → ℕ → Fields BatchTrailer → Tests (layout BatchTrailer)
 batchTrailerTests total accounts count x = (totalTests 1 maxTotal total (totalAmount x), (equalTests accounts (totalAccounts x), (totalTests 1 maxItems count (items x), ([], tt))))

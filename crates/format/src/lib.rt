@@ -127,6 +127,8 @@ pub const NO_ROOM: u8 = 12;
 
 pub const NO_SUCH_ITEM: u8 = 13;
 
+pub const ORDINARY_ACCOUNT: u8 = 14;
+
 pub const BEYOND_LIMITS: u8 = 24;
 
 // Ten digits.

@@ -11,7 +11,7 @@ use lib.Seq.{take-at, take-append-le}
 use lib.Dec.{T, leb}
 use Rattle.machine.proofs.Base.{none≢some}
 use Rattle.machine.specs.Lists.{pick, spaces}
-use Rattle.format.specs.Rules.{mostDescriptions, typeOf, isTypeIn, needsName, isType}
+use Rattle.format.specs.Rules.{mostDescriptions, typeOf, isTypeIn, isUncheckedType, isType}
 use Rattle.format.specs.Language.{Name, Item, Batch, File, Reads, fileRecs, ReferenceOk, DescriptionsOk, NameOk, isSome, ItemOk, ItemsOk, Before, noneBefore, afterThat, BatchOk, BatchesOk}
 use Rattle.format.specs.Cutting.{linesIn, AreLines}
 use Rattle.format.specs.Statements.{InLanguage}
@@ -104,7 +104,7 @@ item-finds g account fx i h l k =
     let n : length (i .descriptions) ≤ 4 = omega (arith, k .room, four-at-most (isSome (i .reference))) in
     let y = k .transaction-ok .type-in in
     let e : onItem (onFixed nothingFound fx) i .fields ≡ fieldsFor i =
-    fields-found t fx (i .descriptions) (i .reference) (needsName (typeOf (i .type))) (i .name) (k .reference-ok) (k .name-ok) in
+    fields-found t fx (i .descriptions) (i .reference) (isUncheckedType (typeOf (i .type))) (i .name) (k .reference-ok) (k .name-ok) in
     let d : textsFound (onItem (onFixed nothingFound fx) i) ≡ textsFor (record { fixed = fx; item = i }) =
     texts-found t fx (i .descriptions) (i .reference) (i .name)
     ∙ ap₂ (λ u v. merged u v (mostDescriptions (isSome (i .reference))) .text) (all-places fx h l) (all-places (i .descriptions) (k .descriptions-ok) n)

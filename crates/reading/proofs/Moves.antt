@@ -5,7 +5,7 @@ use mathlib.Core.List.{List}
 use mathlib.Core.Bool.{Bool, false}
 use lib.ListN.{take, drop}
 use Rattle.machine.proofs.Base.{true≢false}
-use Rattle.format.specs.Rules.{needsName}
+use Rattle.format.specs.Rules.{isUncheckedType}
 use Rattle.format.specs.declared.Kind.{Kind}
 use Rattle.format.specs.declared.Kind.the-variants.{BatchHeaderB, Transaction}
 use Rattle.format.specs.declared.Group.{Group}
@@ -34,7 +34,7 @@ texted-via s r d e h = h ∙ rw e
 pub opened-made : {a : ℕ} (line : List ℕ) → a ≡ digitsOf (take 10 (drop 7 line)) .value → _≡_ {A = Batch} (record { account = a; items = 0; total = 0; accounts = 0; fixed = 0 }) (openedBatch (valuesOf BatchHeaderB line))
 opened-made line e = rw e
 
-pub item-made : {u : Bool} {n : Name} (t : TransactionFields) → u ≡ needsName (t .kind) → n ≡ nameIf u → _≡_ {A = OpenItem} (record { name = n; reference = false; descriptions = 0 }) (openedItem t)
+pub item-made : {u : Bool} {n : Name} (t : TransactionFields) → u ≡ isUncheckedType (t .kind) → n ≡ nameIf u → _≡_ {A = OpenItem} (record { name = n; reference = false; descriptions = 0 }) (openedItem t)
 item-made t e h = rw (h, e)
 
 -- by the kind

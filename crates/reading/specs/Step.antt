@@ -6,7 +6,7 @@ use lib.ListN.{take}
 use lib.Dec.{eqb}
 use Rattle.machine.specs.Lists.{pick}
 use Rattle.format.specs.Records.{Fields, group, orderingAccount, sequence, unidentified}
-use Rattle.format.specs.Rules.{groupOf, needsName}
+use Rattle.format.specs.Rules.{groupOf, isUncheckedType}
 use Rattle.format.specs.Language.{tenDigits}
 use Rattle.format.specs.Cutting.{isOpen, cutOf}
 use Rattle.format.specs.Answers.{accepted, brokenLine, unknownRecord, misplacedRecord, endsEarly, afterTrailer, beyondLimits, refusal, acceptance}
@@ -74,7 +74,7 @@ nameIf true = Due
 nameIf false = Unwanted
 
 abbrev pub openedItem : TransactionFields → OpenItem
-openedItem t = record { name = nameIf (needsName (t .kind)); reference = false; descriptions = 0 }
+openedItem t = record { name = nameIf (isUncheckedType (t .kind)); reference = false; descriptions = 0 }
 
 abbrev pub paid : State → TransactionFields → State
 paid s t = onward s Item (s .before) (paidBatch (s .batch) t) (openedItem t)

@@ -22,7 +22,7 @@ use record::ClosedBatch;
 use record::TransactionFields;
 use record::read::value_at;
 use record::types::group_in;
-use record::types::needs_name;
+use record::types::is_unchecked_type;
 
 fn opened_batch(line: &[u8]) -> Batch
     ensures { λ r. ⌜ r ≡ openedBatch (valuesOf BatchHeaderB (now (line .entry))) ⌝ }
@@ -73,7 +73,7 @@ fn opened_item(t: TransactionFields) -> OpenItem
     ensures { λ r. ⌜ r ≡ openedItem t ⌝ }
 {
     let kind = t.kind;
-    let name = name_if(needs_name(kind));
+    let name = name_if(is_unchecked_type(kind));
     OpenItem {
         name,
         reference: false,

@@ -10,6 +10,7 @@ use lib.Dec.{eqb, leb, ltb}
 use Rattle.machine.specs.Lists.{pick, inRange}
 use Rattle.machine.proofs.Base.{and-first, and-second}
 use Rattle.format.specs.Fields.{Field, numeric, width, wellFormed}
+use Rattle.format.specs.Answers.{isOfFile}
 use Rattle.format.specs.Records.{layout, Fields, group, unidentified, amount}
 use Rattle.format.specs.Rules.{maxTotal, maxItems}
 use Rattle.format.specs.Tests.{Test, test, Tests, groupTests}
@@ -65,68 +66,68 @@ in-range w low high v ts l e = by (wellFormed (numeric w) l) (leb low v) (leb v 
     by true false u h e = absurd (omega arith)
     by false q u h e = absurd (omega arith)
 
--- ### For users: a record's faults have numbers up to 9
+-- ### For users: a record's faults have numbers that a file can have
 
-abbrev smallTests : List Test → Bool
-smallTests [] = true
-smallTests (test b n ∷ ts) = leb n 9 && smallTests ts
+abbrev ofFileTests : List Test → Bool
+ofFileTests [] = true
+ofFileTests (test b n ∷ ts) = isOfFile n && ofFileTests ts
 
-abbrev smallAll : (fs : List Field) → Tests fs → Bool
-smallAll [] t = true
-smallAll (f ∷ fs) t = smallTests (t .0) && smallAll fs (t .1)
+abbrev ofFileAll : (fs : List Field) → Tests fs → Bool
+ofFileAll [] t = true
+ofFileAll (f ∷ fs) t = ofFileTests (t .0) && ofFileAll fs (t .1)
 
-abbrev Small : List Row → Type 0
-Small [] = Unit {0}
-Small (row c n ∷ R) = (n ≤ 9) × Small R
+abbrev OfFile : List Row → Type 0
+OfFile [] = Unit {0}
+OfFile (row c n ∷ R) = (isOfFile n ≡ true) × OfFile R
 
-first-small : (R : List Row) → Small R → firstOr faultAt R noFault .number ≤ 9
+first-of-file : (R : List Row) → OfFile R → isOfFile (firstOr faultAt R noFault .number) ≡ true
 unfolding firstOr pick
-first-small [] h = zero-le
-first-small (row c n ∷ R) h = by (eqb n 0) (first-small R (h .1))
+first-of-file [] h = refl
+first-of-file (row c n ∷ R) h = by (eqb n 0) (first-of-file R (h .1))
   where
-    by : (q : Bool) → firstOr faultAt R noFault .number ≤ 9 → pick q (firstOr faultAt R noFault) (faultAt c n) .number ≤ 9
+    by : (q : Bool) → isOfFile (firstOr faultAt R noFault .number) ≡ true → isOfFile (pick q (firstOr faultAt R noFault) (faultAt c n) .number) ≡ true
     by true k = k
     by false k = h .0
 
-tests-small : (ts : List Test) → smallTests ts ≡ true → firstAnswer ts ≤ 9
+tests-of-file : (ts : List Test) → ofFileTests ts ≡ true → isOfFile (firstAnswer ts) ≡ true
 unfolding pick
-tests-small [] h = zero-le
-tests-small (test true n ∷ ts) h = tests-small ts (and-second (leb n 9) (smallTests ts) h)
-tests-small (test false n ∷ ts) h = leb-true n 9 (and-first (leb n 9) (smallTests ts) h)
+tests-of-file [] h = refl
+tests-of-file (test true n ∷ ts) h = tests-of-file ts (and-second (isOfFile n) (ofFileTests ts) h)
+tests-of-file (test false n ∷ ts) h = and-first (isOfFile n) (ofFileTests ts) h
 
-field-small : (f : Field) (ts : List Test) (l : List ℕ) → smallTests ts ≡ true → fieldAnswer f ts l ≤ 9
+field-of-file : (f : Field) (ts : List Test) (l : List ℕ) → ofFileTests ts ≡ true → isOfFile (fieldAnswer f ts l) ≡ true
 unfolding fieldAnswer pick
-field-small f ts l h = by (wellFormed f l)
+field-of-file f ts l h = by (wellFormed f l)
   where
-    by : (q : Bool) → pick q (firstAnswer ts) 4 ≤ 9
-    by true = tests-small ts h
-    by false = omega arith
+    by : (q : Bool) → isOfFile (pick q (firstAnswer ts) 4) ≡ true
+    by true = tests-of-file ts h
+    by false = refl
 
-rows-small : (c : ℕ) (fs : List Field) (t : Tests fs) (xs : List ℕ) (k : List Row) → smallAll fs t ≡ true → Small k → Small (rowsAt c fs t xs k)
-rows-small c [] t xs k h s = s
-rows-small c (f ∷ fs) t xs k h s =
-    (field-small f (t .0) (partAt c (width f) xs) (and-first (smallTests (t .0)) (smallAll fs (t .1)) h), rows-small (c + width f) fs (t .1) xs k (and-second (smallTests (t .0)) (smallAll fs (t .1)) h) s)
+rows-of-file : (c : ℕ) (fs : List Field) (t : Tests fs) (xs : List ℕ) (k : List Row) → ofFileAll fs t ≡ true → OfFile k → OfFile (rowsAt c fs t xs k)
+rows-of-file c [] t xs k h s = s
+rows-of-file c (f ∷ fs) t xs k h s =
+    (field-of-file f (t .0) (partAt c (width f) xs) (and-first (ofFileTests (t .0)) (ofFileAll fs (t .1)) h), rows-of-file (c + width f) fs (t .1) xs k (and-second (ofFileTests (t .0)) (ofFileAll fs (t .1)) h) s)
 
-group-small : (o : Option Group) (t : List ℕ) → smallTests (groupTests o t) ≡ true
-group-small none t = refl
-group-small (some g) t = refl
+group-of-file : (o : Option Group) (t : List ℕ) → ofFileTests (groupTests o t) ≡ true
+group-of-file none t = refl
+group-of-file (some g) t = refl
 
-small-tests : (p : Before) (b : Batch) (k : Kind) (x : Fields k) → smallAll (layout k) (testsFor p b k x) ≡ true
-small-tests p b =
-    every (λ k. (x : Fields k) → smallAll (layout k) (testsFor p b k x) ≡ true) (λ x. refl) (λ x. rw (group-small (knownGroup p) (group x))) (λ x. rw (group-small (knownGroup p) (group (unidentified x)))) (λ x. refl) (λ x. refl) (λ x. refl) (λ x. refl) (λ x. refl) (λ x. refl) (λ x. refl) (λ x. refl) (λ x. refl) (λ x. refl) (λ x. refl)
+all-of-file : (p : Before) (b : Batch) (k : Kind) (x : Fields k) → ofFileAll (layout k) (testsFor p b k x) ≡ true
+all-of-file p b =
+    every (λ k. (x : Fields k) → ofFileAll (layout k) (testsFor p b k x) ≡ true) (λ x. refl) (λ x. rw (group-of-file (knownGroup p) (group x))) (λ x. rw (group-of-file (knownGroup p) (group (unidentified x)))) (λ x. refl) (λ x. refl) (λ x. refl) (λ x. refl) (λ x. refl) (λ x. refl) (λ x. refl) (λ x. refl) (λ x. refl) (λ x. refl) (λ x. refl)
 
-small-check : (q : Bool) → pick q 0 8 ≤ 9
+check-of-file : (q : Bool) → isOfFile (pick q 0 8) ≡ true
 unfolding pick
-small-check true = omega arith
-small-check false = omega arith
+check-of-file true = refl
+check-of-file false = refl
 
-small-maxima : (b : Batch) (k : Kind) (x : Fields k) → Small (checkRows (maximaFor b k x))
-small-maxima b =
-    every (λ k. (x : Fields k) → Small (checkRows (maximaFor b k x))) (λ x. tt) (λ x. tt) (λ x. tt) (λ x. tt) (λ x. tt) (λ x. (small-check (ltb (b .items) maxItems), (small-check (leb (b .total + amount x) maxTotal), tt))) (λ x. tt) (λ x. tt) (λ x. tt) (λ x. tt) (λ x. tt) (λ x. tt) (λ x. tt) (λ x. tt)
+maxima-of-file : (b : Batch) (k : Kind) (x : Fields k) → OfFile (checkRows (maximaFor b k x))
+maxima-of-file b =
+    every (λ k. (x : Fields k) → OfFile (checkRows (maximaFor b k x))) (λ x. tt) (λ x. tt) (λ x. tt) (λ x. tt) (λ x. tt) (λ x. (check-of-file (ltb (b .items) maxItems), (check-of-file (leb (b .total + amount x) maxTotal), tt))) (λ x. tt) (λ x. tt) (λ x. tt) (λ x. tt) (λ x. tt) (λ x. tt) (λ x. tt) (λ x. tt)
 
-pub fault-numbers : (p : Before) (b : Batch) (k : Kind) (xs : List ℕ) → faultOf p b k xs .number ≤ 9
+pub fault-numbers : (p : Before) (b : Batch) (k : Kind) (xs : List ℕ) → isOfFile (faultOf p b k xs .number) ≡ true
 unfolding faultOf firstFault
-fault-numbers p b k xs = first-small _ (rows-small 6 (layout k) (testsFor p b k (fieldsOf k xs)) xs (checkRows (maximaFor b k (fieldsOf k xs))) (small-tests p b k (fieldsOf k xs)) (small-maxima b k (fieldsOf k xs)))
+fault-numbers p b k xs = first-of-file _ (rows-of-file 6 (layout k) (testsFor p b k (fieldsOf k xs)) xs (checkRows (maximaFor b k (fieldsOf k xs))) (all-of-file p b k (fieldsOf k xs)) (maxima-of-file b k (fieldsOf k xs)))
 
 -- ## Every kind, from the call of its arm
 

@@ -1,6 +1,6 @@
 -- The first fault of a transaction, from what calls answered of its fields, and a batch's maxima. Assumes nothing.
 use Prim.Native.Nat.{ℕ, _+_, _-_, _<_, _≤_, zero-le}
-use mathlib.Core.Path.{_≡_, refl, sym, ap, _∙_}
+use mathlib.Core.Path.{_≡_, refl, sym, ap, ap₂, _∙_}
 use mathlib.Core.List.{List, [], _∷_}
 use mathlib.Core.Bool.{Bool, true, false}
 use native.Mathlib.Omega.{arith}
@@ -9,10 +9,11 @@ use borrow.Author.Tests.{lt-ltb, le-ltb, le-leb, lt-leb, eq-eqb, ne-eqb, leb-tru
 use lib.ListN.{take, drop}
 use lib.Dec.{eqb, leb, ltb}
 use Rattle.machine.specs.Lists.{pick}
-use Rattle.format.specs.Fields.{Field, filled, filler, width, wellFormed}
+use Rattle.machine.specs.Digits.{valueOf}
+use Rattle.format.specs.Fields.{Field, numeric, filled, filler, width, wellFormed}
 use Rattle.format.specs.Answers.{aboveMaximum}
 use Rattle.format.specs.Records.{layout, group, type, amount}
-use Rattle.format.specs.Rules.{maxAmount, maxTotal, maxItems, maxAccount, sameGroup, typeOf, isType}
+use Rattle.format.specs.Rules.{maxAmount, maxTotal, maxItems, maxAccount, sameGroup, typeOf, isType, isUncheckedType}
 use Rattle.format.specs.Tests.{Tests, typeTests, amountTests, partyTests, transactionTests}
 use Rattle.format.specs.declared.Kind.the-variants.{Transaction}
 use Rattle.format.specs.declared.Group.{Group}
@@ -62,27 +63,35 @@ below h = omega arith
 pub type-row : {t : TypeRead} {n : ℕ} (g : Group) (l : List ℕ) → t ≡ typeOf l → n ≡ fieldAnswer (filled 4) (typeTests g t) l → n ≡ fieldAnswer (filled 4) (typeTests g (typeOf l)) l
 type-row g l e h = h ∙ ap (λ t. fieldAnswer (filled 4) (typeTests g t) l) e
 
-pub party-via : {r : Numeric} {m : Bool} (n : Bool) (own : ℕ) (l : List ℕ) → m ≡ n → r ≡ numericOf (partyTests m own) l → r ≡ numericOf (partyTests n own) l
-party-via n own l e h = h ∙ ap (λ m. numericOf (partyTests m own) l) e
+pub party-via : {r : Numeric} {m u : Bool} (n w : Bool) (own : ℕ) (l : List ℕ) → m ≡ n → u ≡ w → r ≡ numericOf (partyTests m own u) l → r ≡ numericOf (partyTests n own w) l
+party-via n w own l e f h = h ∙ ap₂ (λ m u. numericOf (partyTests m own u) l) e f
+
+-- of a type that a call read
+party-of : {t : TypeRead} {r : Numeric} (mine : Bool) (own : ℕ) (k l : List ℕ) → t ≡ typeOf k → r ≡ numericOf (partyTests mine own (isUncheckedType t)) l → r ≡ numericOf (partyTests mine own (isUncheckedType (typeOf k))) l
+party-of mine own k l e h = h ∙ ap (λ t. numericOf (partyTests mine own (isUncheckedType t)) l) e
+
+pub party-row : {t : TypeRead} {r : Numeric} (mine : Bool) (own : ℕ) (k m : List ℕ) → t ≡ typeOf k → r ≡ numericOf (partyTests mine own (isUncheckedType t)) (take 10 m)
+    → r .number ≡ fieldAnswer (numeric 10) (partyTests mine own (isUncheckedType (typeOf k)) (valueOf (take 10 m))) (take 10 m)
+party-row mine own k m e h = of-row (partyTests mine own (isUncheckedType (typeOf k))) 10 m (party-of mine own k (take 10 m) e h) refl refl
 
 -- where no row has a number
 pub all-taken : {x : TransactionRead} {t : TypeRead} {kind rest : ℕ} {amount payer beneficiary : Numeric} (g : Group) (own : ℕ) (l : List ℕ)
     → x ≡ takenTransaction t (amount .value) (payer .value) (beneficiary .value)
     → t ≡ typeOf (take 4 (drop 5 l)) → kind ≡ fieldAnswer (filled 4) (typeTests g t) (take 4 (drop 5 l)) → kind ≡ 0
     → amount ≡ numericOf amountTests (take 12 (drop 9 l)) → amount .number ≡ 0
-    → payer ≡ numericOf (partyTests (sameGroup Payments g) own) (take 10 (drop 21 l)) → payer .number ≡ 0
-    → beneficiary ≡ numericOf (partyTests (sameGroup Debits g) own) (take 10 (drop 31 l)) → beneficiary .number ≡ 0
+    → payer ≡ numericOf (partyTests (sameGroup Payments g) own (isUncheckedType t)) (take 10 (drop 21 l)) → payer .number ≡ 0
+    → beneficiary ≡ numericOf (partyTests (sameGroup Debits g) own (isUncheckedType t)) (take 10 (drop 31 l)) → beneficiary .number ≡ 0
     → rest ≡ fieldAnswer (filler 9) [] (take 9 (drop 41 l)) → rest ≡ 0
     → x ≡ transactionOf g own l
 unfolding transactionOf
-all-taken g own l h t k k0 a a0 p p0 b b0 f f0 =
+all-taken {t = y} g own l h t k k0 a a0 p p0 b b0 f f0 =
     let va = of-value amountTests (take 12 (drop 9 l)) a a0 in
-    let vp = of-value (partyTests (sameGroup Payments g) own) (take 10 (drop 21 l)) p p0 in
-    let vb = of-value (partyTests (sameGroup Debits g) own) (take 10 (drop 31 l)) b b0 in
+    let vp = of-value (partyTests (sameGroup Payments g) own (isUncheckedType y)) (take 10 (drop 21 l)) p p0 in
+    let vb = of-value (partyTests (sameGroup Debits g) own (isUncheckedType y)) (take 10 (drop 31 l)) b b0 in
     row-next _ _ _ _ _ (type-row g (take 4 (drop 5 l)) t k) k0
     (row-next _ _ _ _ _ (of-row amountTests 12 (drop 9 l) a refl refl) a0
-    (row-next _ _ _ _ _ (of-row (partyTests (sameGroup Payments g) own) 10 (drop 21 l) p refl refl) p0
-    (row-next _ _ _ _ _ (of-row (partyTests (sameGroup Debits g) own) 10 (drop 31 l) b refl refl) b0
+    (row-next _ _ _ _ _ (party-row (sameGroup Payments g) own (take 4 (drop 5 l)) (drop 21 l) t p) p0
+    (row-next _ _ _ _ _ (party-row (sameGroup Debits g) own (take 4 (drop 5 l)) (drop 31 l) t b) b0
     (row-next _ _ _ _ _ f f0
     (row-none _ _ (h ∙ rw (t, va, vp, vb)))))))
 

@@ -4,7 +4,7 @@ use mathlib.Core.Path.{_≡_, sym, ap, _∙_}
 use mathlib.Core.List.{List}
 use mathlib.Core.Bool.{Bool, true, false}
 use Rattle.machine.specs.Lists.{pick, same}
-use Rattle.format.specs.Rules.{groupText, isGroup, sameGroup, typeGroup, isUnchecked, needsName}
+use Rattle.format.specs.Rules.{groupText, isGroup, sameGroup, typeGroup, isUnchecked, isUncheckedType}
 use Rattle.format.specs.Tests.{groupTests, typeTests}
 use Rattle.format.specs.declared.Group.{Group}
 use Rattle.format.specs.declared.TransactionType.{TransactionType}
@@ -70,11 +70,11 @@ type-none g e = rw e
 
 pub ruleset types = (type-right, type-other, type-none)
 
--- whether an item of a type must have a name
-pub name-by : {t : TypeRead} {y : TransactionType} {b : Bool} → t ≡ Of y → b ≡ isUnchecked y → b ≡ needsName t
-name-by e h = h ∙ ap needsName (sym e)
+-- whether a type is unchecked
+pub unchecked-by : {t : TypeRead} {y : TransactionType} {b : Bool} → t ≡ Of y → b ≡ isUnchecked y → b ≡ isUncheckedType t
+unchecked-by e h = h ∙ ap isUncheckedType (sym e)
 
-pub name-none : {t : TypeRead} → t ≡ NoType → false ≡ needsName t
-name-none e = ap needsName (sym e)
+pub unchecked-none : {t : TypeRead} → t ≡ NoType → false ≡ isUncheckedType t
+unchecked-none e = ap isUncheckedType (sym e)
 
-pub ruleset names = (name-by, name-none)
+pub ruleset uncheckeds = (unchecked-by, unchecked-none)

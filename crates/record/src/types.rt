@@ -2,7 +2,7 @@
 ghost use mathlib.Core.Path.{_≡_};
 ghost use Rattle.format.specs.Fields.{filled};
 ghost use Rattle.format.specs.Rules.{groupText, isGroup, groupOf, sameGroup};
-ghost use Rattle.format.specs.Rules.{typeText, typeOf, typeGroup, isUnchecked, needsName};
+ghost use Rattle.format.specs.Rules.{typeText, typeOf, typeGroup, isUnchecked, isUncheckedType};
 ghost use Rattle.format.specs.Tests.{groupTests, typeTests};
 ghost use Rattle.field.specs.Rows.{partAt, answerAt, firstAnswer, fieldAnswer};
 ghost use Rattle.record.specs.Faults.{knownGroup};
@@ -152,9 +152,9 @@ fn is_unchecked(t: TransactionType) -> bool
     }
 }
 
-// A type whose item must have a name record.
-pub fn needs_name(t: TypeRead) -> bool
-    ensures { λ r. ⌜ r ≡ needsName t ⌝ }
+// An unchecked type, whose item must have a name record and a seven-digit other party.
+pub fn is_unchecked_type(t: TypeRead) -> bool
+    ensures { λ r. ⌜ r ≡ isUncheckedType t ⌝ }
 {
     match t {
         TypeRead::Of(y) => is_unchecked(y),

@@ -11,7 +11,7 @@ use lib.Dec.{eqb, leb, ltb}
 use Rattle.machine.specs.Lists.{same}
 use Rattle.machine.proofs.Base.{and-second, true≢false}
 use Rattle.format.specs.Records.{Fields, code}
-use Rattle.format.specs.Rules.{mostDescriptions, sameGroup, needsName}
+use Rattle.format.specs.Rules.{mostDescriptions, sameGroup, isUncheckedType}
 use Rattle.format.specs.Language.{crlf}
 use Rattle.format.specs.Cutting.{isOpen, cutOf, nextLine}
 use Rattle.format.specs.declared.Cut.{Cut}
@@ -133,7 +133,7 @@ module _ (s : State) (l : ℕ) (n : Name) (y : EndingSoFar) (h : l ≤ s .line) 
   next-behind BatchHeaderC c x = by (nextFor s BatchHeaderC x) (l + 1) Unwanted (omega arith) (alike refl)
   next-behind FixedDescription c x = by (nextFor s FixedDescription x) (l + 1) n (omega arith) e
   next-behind OrderingParty c x = by (nextFor s OrderingParty x) (l + 1) n (omega arith) e
-  next-behind Transaction c x = by (nextFor s Transaction x) (l + 1) (nameIf (needsName (transactionFor x .kind))) (omega arith) (alike refl)
+  next-behind Transaction c x = by (nextFor s Transaction x) (l + 1) (nameIf (isUncheckedType (transactionFor x .kind))) (omega arith) (alike refl)
   next-behind NamePayer c x = by (nextFor s NamePayer x) (l + 1) Read (omega arith) (alike refl)
   next-behind CityPayer c x = absurd (true≢false c)
   next-behind PaymentReference c x = by (nextFor s PaymentReference x) (l + 1) (afterText n) (omega arith) (text-like e)

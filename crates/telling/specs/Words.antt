@@ -4,7 +4,7 @@ use Prim.Native.String.{String}
 use mathlib.Core.List.{List, [], _∷_}
 use lib.Dec.{eqb}
 use Rattle.machine.specs.Lists.{pick}
-use Rattle.format.specs.Answers.{accepted, brokenLine, unknownRecord, misplacedRecord, wrongForm, wrongValue, wrongAccount, differs, aboveMaximum, wrongTrailer, endsEarly, afterTrailer, noRoom, noSuchItem, beyondLimits}
+use Rattle.format.specs.Answers.{accepted, brokenLine, unknownRecord, misplacedRecord, wrongForm, wrongValue, wrongAccount, differs, aboveMaximum, wrongTrailer, endsEarly, afterTrailer, noRoom, noSuchItem, ordinaryAccount, beyondLimits}
 use Rattle.machine.specs.Texts.{characters}
 
 abbrev pub words : List (ℕ × String)
@@ -22,6 +22,7 @@ words =
     ∷ (afterTrailer, "there is something after the file trailer")
     ∷ (noRoom, "the room lent is too small")
     ∷ (noSuchItem, "there is no such batch or item")
+    ∷ (ordinaryAccount, "the types 0000, 0003 and 1002 are for accounts of seven digits or fewer only")
     ∷ (beyondLimits, "the state handed in is none that a file leads to")
     ∷ (accepted, "accepted")
     ∷ []

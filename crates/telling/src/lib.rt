@@ -24,6 +24,13 @@ fn put_words_from_11(page: &mut [u8], at: usize, number: u8) -> usize
     if number == format::NO_SUCH_ITEM {
         return put_text(page, at, b"there is no such batch or item");
     }
+    if number == format::ORDINARY_ACCOUNT {
+        return put_text(
+            page,
+            at,
+            b"the types 0000, 0003 and 1002 are for accounts of seven digits or fewer only",
+        );
+    }
     if number == format::BEYOND_LIMITS {
         return put_text(
             page,

@@ -2,7 +2,7 @@
 use mathlib.Core.Path.{refl}
 use Rattle.machine.specs.Lists.{pick, same}
 use Rattle.machine.specs.Digits.{digitsOnto, decimal, valueAfter}
-use Rattle.format.specs.Rules.{daysIn, isDate, isDesiredDate, isTestCode, isIdentification, isOfDay, weighted, isEleven, isOrderingAccount, isAccount, isOwnIf, typeOf}
+use Rattle.format.specs.Rules.{daysIn, isDate, isDesiredDate, isTestCode, isIdentification, isOfDay, weighted, isEleven, isOrderingAccount, isAccount, isOwnIf, isSevenIf, typeOf}
 use Rattle.format.specs.Cutting.{cutOf}
 use Rattle.field.specs.Rows.{fieldAnswer, firstOr}
 use Rattle.field.specs.Leaf.{digitsOf}
@@ -18,7 +18,7 @@ use Rattle.writer.specs.Writing.{writtenOf}
 use Rattle.writer.specs.Cases.{Cases}
 
 pub cases : Cases
-unfolding pick same digitsOnto decimal valueAfter daysIn isDate isDesiredDate isTestCode isIdentification isOfDay weighted isEleven isOrderingAccount isAccount isOwnIf typeOf fieldAnswer firstOr digitsOf codeOf debitCode batchCode fileCode firstFault faultOf padded isLimited within mayOpen mayEnd mayPay mayName mayText mayRefer textsBy allowed judgedAs judgedKind judgedLine cutOf withCut judgedFirst stepAt numberIn textIn blankIn encodedLine digitsFor lineFor writtenOf
+unfolding pick same digitsOnto decimal valueAfter daysIn isDate isDesiredDate isTestCode isIdentification isOfDay weighted isEleven isOrderingAccount isAccount isOwnIf isSevenIf typeOf fieldAnswer firstOr digitsOf codeOf debitCode batchCode fileCode firstFault faultOf padded isLimited within mayOpen mayEnd mayPay mayName mayText mayRefer textsBy allowed judgedAs judgedKind judgedLine cutOf withCut judgedFirst stepAt numberIn textIn blankIn encodedLine digitsFor lineFor writtenOf
 cases =
     record {
       header = refl;
@@ -47,6 +47,8 @@ cases =
       file-trailer-with-text = refl;
       name-lacking = refl;
       too-much = refl;
+      unchecked-to-seven = refl;
+      unchecked-to-nine = refl;
       after-trailer = refl;
       other-end = refl;
       other-end-misplaced = refl;

@@ -9,7 +9,7 @@ use Rattle.format.specs.Answers.{refusal, acceptance}
 use Rattle.format.specs.declared.Answer.{Answer}
 use Rattle.format.specs.declared.EndingSoFar.the-variants.{CrLf, Lf}
 use Rattle.format.specs.declared.Group.the-variants.{Payments}
-use Rattle.format.specs.declared.TransactionType.the-variants.{Salary}
+use Rattle.format.specs.declared.TransactionType.the-variants.{UncheckedCreditor, Salary}
 use Rattle.record.specs.Faults.{nothingBefore, afterHeader}
 use Rattle.reading.specs.State.{noItem, startState}
 use Rattle.reading.specs.Step.{withEnding}
@@ -42,6 +42,9 @@ batchAt line p name =
 
 abbrev pub salaryOf : ℕ → Entry
 salaryOf amount = Transaction (record { kind = Salary; amount = amount; payer = 123456789; beneficiary = 1234 })
+
+abbrev pub uncheckedTo : ℕ → Entry
+uncheckedTo beneficiary = Transaction (record { kind = UncheckedCreditor; amount = 1; payer = 123456789; beneficiary = beneficiary })
 
 -- with so much room
 abbrev pub Answers : State → Entry → List ℕ → ℕ → Answer → Type 0
@@ -99,6 +102,8 @@ pub record Cases : Type 0 where
   -- the reader's other answers
   pub name-lacking : Answers (batchAt 4 stage.Item Due) BatchTrailer (letters 0) 52 (refusal 3 5 1)
   pub too-much : Answers (batchAt 3 stage.Ordered Unwanted) (salaryOf 45378021609) (letters 0) 52 (refusal 5 4 10)
+  pub unchecked-to-seven : Answers (batchAt 3 stage.Ordered Unwanted) (uncheckedTo 9999999) (letters 0) 52 (acceptance 4)
+  pub unchecked-to-nine : Answers (batchAt 3 stage.Ordered Unwanted) (uncheckedTo 123456789) (letters 0) 51 (refusal 14 4 32)
   pub after-trailer : Answers (batchAt 6 stage.Done Unwanted) FileTrailer (letters 35) 0 (refusal 11 7 0)
   -- where the lines so far end with 10 alone: what the reader would give, 1 after 24 and 11, before all else
   pub other-end : Answers (withEnding Lf (batchAt 5 stage.Closed Unwanted)) FileTrailer (letters 35) 0 (refusal 1 6 0)

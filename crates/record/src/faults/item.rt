@@ -1,6 +1,6 @@
 // A transaction's fields, and what is wrong in them from the left, then in the batch with it.
 ghost use mathlib.Core.Path.{_≡_};
-ghost use Rattle.format.specs.Rules.{sameGroup};
+ghost use Rattle.format.specs.Rules.{sameGroup, isUncheckedType};
 ghost use Rattle.format.specs.Tests.{amountTests, partyTests};
 ghost use Rattle.format.specs.declared.Group.the-variants.{Payments, Debits};
 ghost use Rattle.field.specs.Rows.{partAt};
@@ -13,6 +13,7 @@ use crate::Transaction;
 use crate::TransactionFields;
 use crate::TransactionRead;
 use crate::faults::fault;
+use crate::types::is_unchecked_type;
 use crate::types::type_answer;
 use crate::types::type_in;
 use field::accounts::party;
@@ -47,16 +48,16 @@ fn amount_in(line: &[u8]) -> Numeric
     in_range(digits_at(line, 9, 12), 1, Transaction::MAX_AMOUNT)
 }
 
-fn payer_in(line: &[u8], group: Group, own: u64) -> Numeric
-    ensures { λ r. ⌜ r ≡ numericOf (partyTests (sameGroup Payments group) own) (partAt 22 10 (now (line .entry))) ⌝ }
+fn payer_in(line: &[u8], t: TypeRead, group: Group, own: u64) -> Numeric
+    ensures { λ r. ⌜ r ≡ numericOf (partyTests (sameGroup Payments group) own (isUncheckedType t)) (partAt 22 10 (now (line .entry))) ⌝ }
 {
-    party(line, 21, is_payments(group), own)
+    party(line, 21, is_payments(group), own, is_unchecked_type(t))
 }
 
-fn beneficiary_in(line: &[u8], group: Group, own: u64) -> Numeric
-    ensures { λ r. ⌜ r ≡ numericOf (partyTests (sameGroup Debits group) own) (partAt 32 10 (now (line .entry))) ⌝ }
+fn beneficiary_in(line: &[u8], t: TypeRead, group: Group, own: u64) -> Numeric
+    ensures { λ r. ⌜ r ≡ numericOf (partyTests (sameGroup Debits group) own (isUncheckedType t)) (partAt 32 10 (now (line .entry))) ⌝ }
 {
-    party(line, 31, is_debits(group), own)
+    party(line, 31, is_debits(group), own, is_unchecked_type(t))
 }
 
 fn transaction_of(kind: TypeRead, amount: u64, payer: u64, beneficiary: u64) -> TransactionRead
@@ -104,11 +105,11 @@ pub fn transaction_in(line: &[u8], group: Group, own: u64) -> TransactionRead
     if amount.number != 0 {
         return no_transaction(amount.number, 10);
     }
-    let payer = payer_in(line, group, own);
+    let payer = payer_in(line, t, group, own);
     if payer.number != 0 {
         return no_transaction(payer.number, 22);
     }
-    let beneficiary = beneficiary_in(line, group, own);
+    let beneficiary = beneficiary_in(line, t, group, own);
     if beneficiary.number != 0 {
         return no_transaction(beneficiary.number, 32);
     }

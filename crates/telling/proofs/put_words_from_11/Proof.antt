@@ -32,4 +32,8 @@ put-words-from-11-spec =
     (λ c κs. search needs)  -- put-text-requires-6
     (λ c. search needs)  -- same-length-6
     (λ c. search tells depth 20 fits 10000)  -- returns-6
+    (λ c. search needs)  -- slice-aggregate-put-text-7
+    (λ c κs. search needs)  -- put-text-requires-7
+    (λ c. search needs)  -- same-length-7
+    (λ c. search tells depth 20 fits 10000)  -- returns-7
     )

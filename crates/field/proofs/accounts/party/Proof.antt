@@ -1,7 +1,6 @@
 -- What accounts::party ensures, by the laws of Elevens, Numerics and Picks.
 use borrow.Author.Needs.{needs}
-use borrow.Author.Tests.{eq-eqb, ne-eqb}
-use Rattle.field.proofs.Elevens.{owns, ten-digits}
+use Rattle.field.proofs.Elevens.{ten-digits}
 use Rattle.field.proofs.Numerics.{of-stop, of-on, is-right}
 use Rattle.field.proofs.Picks.{pick-yes, pick-no, by-call}
 use Rattle.field.proofs.accounts.party.Statement.{statement}
@@ -15,10 +14,13 @@ party-spec =
     (λ c. search of-stop)  -- returns
     (λ c κs. search needs)  -- part-requires
     (λ c κs. search ten-digits)  -- is-account-requires
+    (λ c κs. search needs)  -- is-own-if-requires
+    (λ c κs. search needs)  -- is-seven-if-requires
     (λ c κs. search needs)  -- wrong-requires
     (λ c κs. search needs)  -- wrong-requires-2
-    (λ c. search (of-on, pick-yes, by-call, owns, eq-eqb, is-right) depth 5)  -- returns-2
-    (λ c. search (of-on, pick-yes, pick-no, by-call, owns, ne-eqb) depth 5)  -- returns-3
-    (λ c. search (of-on, pick-yes, by-call, owns, is-right) depth 5)  -- returns-4
-    (λ c. search (of-on, pick-no, by-call) depth 5)  -- returns-5
+    (λ c κs. search needs)  -- wrong-requires-3
+    (λ c. search (of-on, pick-yes, by-call, is-right) depth 6)  -- returns-2
+    (λ c. search (of-on, pick-yes, pick-no, by-call) depth 6)  -- returns-3
+    (λ c. search (of-on, pick-yes, pick-no, by-call) depth 6)  -- returns-4
+    (λ c. search (of-on, pick-no, by-call) depth 6)  -- returns-5
     )

@@ -8,7 +8,7 @@ pub opened-item-spec : {M : Type 1} → statement M
 opened-item-spec =
     tie.close
     (tie.spec
-    (λ c κs. search needs)  -- needs-name-requires
+    (λ c κs. search needs)  -- is-unchecked-type-requires
     (λ c κs. search needs)  -- name-if-requires
     (λ c. search item-made depth 20 fits 10000)  -- returns
     )

@@ -9,6 +9,7 @@ beneficiary-in-spec =
     tie.close
     (tie.spec
     (λ c κs. search needs)  -- is-debits-requires
+    (λ c κs. search needs)  -- is-unchecked-type-requires
     (λ c κs. search needs)  -- party-requires
     (λ c. search party-via)  -- returns
     )
