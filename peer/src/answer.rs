@@ -31,6 +31,8 @@ pub mod number {
     pub const ROOM: u8 = 12;
     /// No such batch or item.
     pub const NO_SUCH_ITEM: u8 = 13;
+    /// An unchecked type with an account of nine or ten digits.
+    pub const ORDINARY_ACCOUNT: u8 = 14;
     /// The state handed in cannot be one.
     pub const STATE: u8 = 24;
 }

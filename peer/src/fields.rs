@@ -146,7 +146,7 @@ impl Field<'_, 10> {
         let account = self.digits()?;
         match account {
             0 => Err(self.fault(number::VALUE)),
-            1..=9_999_999 => Ok(account),
+            _ if is_seven_digits(account) => Ok(account),
             10_000_000..=99_999_999 => Err(self.fault(number::ACCOUNT)),
             _ if eleven_check(account) => Ok(account),
             _ => Err(self.fault(number::ACCOUNT)),
@@ -156,7 +156,7 @@ impl Field<'_, 10> {
     /// The account of an ordering party: never one of seven digits.
     pub fn ordering_account(&self) -> Result<u64, Fault> {
         let account = self.account()?;
-        self.require(account > 9_999_999, number::ACCOUNT)?;
+        self.require(!is_seven_digits(account), number::ACCOUNT)?;
         Ok(account)
     }
 }
@@ -164,6 +164,11 @@ impl Field<'_, 10> {
 /// May this byte stand in an alphanumeric field?
 pub(crate) fn is_printable(byte: u8) -> bool {
     (32..=126).contains(&byte)
+}
+
+/// "1 to 9,999,999 is a seven-digit account", however few of them it has.
+pub(crate) fn is_seven_digits(account: u64) -> bool {
+    (1..=9_999_999).contains(&account)
 }
 
 /// The eleven check: as ten digits with weights 10 down to 1, the weighted
@@ -245,6 +250,9 @@ mod tests {
         assert_eq!(number(b"0099999999"), Err(6));
         assert_eq!(number(b"0123456789"), Ok(123_456_789));
         assert_eq!(number(b"0123456788"), Err(6));
+        for (account, expected) in [(0, false), (1, true), (9_999_999, true), (10_000_000, false)] {
+            assert_eq!(is_seven_digits(account), expected);
+        }
         assert_eq!(field(b"0009999999").ordering_account().unwrap_err().number, 6);
         assert_eq!(field(b"0000000000").ordering_account().unwrap_err().number, 5);
     }

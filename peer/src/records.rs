@@ -76,7 +76,8 @@ impl TransactionType {
         }
     }
 
-    /// Unchecked items need a name record; the others may not have one.
+    /// Unchecked items need a name record, and another party of seven digits;
+    /// the others may not have a name.
     pub const fn is_unchecked(self) -> bool {
         matches!(self, Self::UncheckedCreditor | Self::UncheckedSalary | Self::UncheckedDebit)
     }

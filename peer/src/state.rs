@@ -3,7 +3,7 @@
 
 use crate::answer::{number, Answer};
 use crate::ending::Ending;
-use crate::fields::{Fault, Fields};
+use crate::fields::{is_seven_digits, Fault, Field, Fields};
 use crate::records::{
     Batch, BatchHeader, BatchTrailer, FileHeader, Group, Kind, OrderingParty, Record, TestCode,
     Transaction, TransactionType, Variant,
@@ -243,19 +243,24 @@ impl State {
         let amount = field.digits()?;
         field.require((1..=Transaction::MAX_AMOUNT).contains(&amount), number::VALUE)?;
 
-        let field = fields.next::<10>();
-        let payer = field.account()?;
-        field.require(self.group == Group::Debits || payer == self.account, number::DIFFERS)?;
-
-        let field = fields.next::<10>();
-        let beneficiary = field.account()?;
-        field.require(
-            self.group == Group::Payments || beneficiary == self.account,
-            number::DIFFERS,
-        )?;
-
+        let payer = self.party(kind, Group::Payments, fields.next())?;
+        let beneficiary = self.party(kind, Group::Debits, fields.next())?;
         fields.filler::<9>()?;
         Ok(Transaction { kind, amount, payer, beneficiary })
+    }
+
+    /// The account of a payer or beneficiary: in group `own` the ordering
+    /// account, in the other the other party's.
+    fn party(&self, kind: TransactionType, own: Group, field: Field<10>) -> Result<u64, Fault> {
+        let account = field.account()?;
+        if self.group == own {
+            field.require(account == self.account, number::DIFFERS)?;
+        } else {
+            // "0000, 0003 and 1002 to seven-digit accounts only"
+            let fits = !kind.is_unchecked() || is_seven_digits(account);
+            field.require(fits, number::ORDINARY_ACCOUNT)?;
+        }
+        Ok(account)
     }
 
     fn batch_trailer(&self, fields: &mut Fields) -> Result<BatchTrailer, Fault> {

@@ -96,8 +96,9 @@ pub const FIELDS: [Field; 45] = [
     // its 8 is in LIMITS
     field("0100A", 10, 12, "amount", Class::Amount, &[4, 5]),
     // 7: "Payer (group 00) or beneficiary (group 10) equals the ordering account"
-    field("0100A", 22, 10, "payer", Class::Account, &[4, 5, 6, 7]),
-    field("0100A", 32, 10, "beneficiary", Class::Account, &[4, 5, 6, 7]),
+    // 14: "Beneficiary in group 00, payer in group 10"
+    field("0100A", 22, 10, "payer", Class::Account, &[4, 5, 6, 7, 14]),
+    field("0100A", 32, 10, "beneficiary", Class::Account, &[4, 5, 6, 7, 14]),
     field("0100A", 42, 9, "filler", Class::Filler, &[4]),
     field("0110B", 6, 35, "name", Class::Text, &[4]),
     field("0110B", 41, 10, "filler", Class::Filler, &[4]),
@@ -119,6 +120,51 @@ pub const FIELDS: [Field; 45] = [
     field("9990A", 41, 10, "filler", Class::Filler, &[4]),
     field("9999A", 6, 45, "filler", Class::Filler, &[4]),
 ];
+
+/// Transactions of an unchecked type told apart further, for "0000, 0003 and
+/// 1002 to seven-digit accounts only". The code has the type as well, and then
+/// how many digits the other party has that is refused, or the column of a
+/// second fault, further right, one of the two being a 14.
+pub const UNCHECKED: [Field; 18] = [
+    field("0100A0000-digits-8", 32, 10, "beneficiary", Class::Account, &[6]),
+    field("0100A0000-digits-9", 32, 10, "beneficiary", Class::Account, &[6, 14]),
+    field("0100A0000-digits-10", 32, 10, "beneficiary", Class::Account, &[6, 14]),
+    field("0100A0000-and-32", 10, 12, "amount", Class::Amount, &[4, 5]),
+    field("0100A0000-and-32", 22, 10, "payer", Class::Account, &[4, 5, 6, 7]),
+    field("0100A0000-and-42", 32, 10, "beneficiary", Class::Account, &[14]),
+    field("0100A0003-digits-8", 32, 10, "beneficiary", Class::Account, &[6]),
+    field("0100A0003-digits-9", 32, 10, "beneficiary", Class::Account, &[6, 14]),
+    field("0100A0003-digits-10", 32, 10, "beneficiary", Class::Account, &[6, 14]),
+    field("0100A0003-and-32", 10, 12, "amount", Class::Amount, &[4, 5]),
+    field("0100A0003-and-32", 22, 10, "payer", Class::Account, &[4, 5, 6, 7]),
+    field("0100A0003-and-42", 32, 10, "beneficiary", Class::Account, &[14]),
+    field("0100A1002-digits-8", 22, 10, "payer", Class::Account, &[6]),
+    field("0100A1002-digits-9", 22, 10, "payer", Class::Account, &[6, 14]),
+    field("0100A1002-digits-10", 22, 10, "payer", Class::Account, &[6, 14]),
+    field("0100A1002-and-22", 10, 12, "amount", Class::Amount, &[4, 5]),
+    field("0100A1002-and-32", 22, 10, "payer", Class::Account, &[14]),
+    field("0100A1002-and-42", 22, 10, "payer", Class::Account, &[14]),
+];
+
+/// How a row of [`UNCHECKED`] is told apart.
+#[derive(Clone, Copy, Debug, PartialEq, Eq)]
+pub enum Detail {
+    /// The digits of the other party.
+    Digits(usize),
+    /// The column of the second fault.
+    And(usize),
+}
+
+impl Field {
+    /// Of a row of [`UNCHECKED`] what its lines begin with, and its detail.
+    pub fn unchecked(&self) -> Option<(&'static str, Detail)> {
+        let (begins, detail) = self.code.split_once('-')?;
+        let (what, number) = detail.split_once('-')?;
+        let number = number.parse().ok()?;
+        let detail = if what == "and" { Detail::And(number) } else { Detail::Digits(number) };
+        Some((begins, detail))
+    }
+}
 
 /// The name of what begins at this column of a line with this code and
 /// variant; none where nothing does. Column 1 is the same of any line.
@@ -172,10 +218,10 @@ const ALWAYS_FIT: [(&str, &[&str]); 14] = [
 #[derive(Clone, Copy, Debug, PartialEq, Eq, PartialOrd, Ord)]
 pub struct Met {
     pub answer: u8,
-    /// The code and variant of the line; of an unknown one its code alone,
-    /// or [`OTHER`]; no record with 0, 10 and 11. With 1 which part of its
-    /// rule, [`SHORT`], [`UNENDED`] or [`OTHER_END`]; the last has one more
-    /// with the code and variant of the line.
+    /// The code and variant of the line, or a code of [`UNCHECKED`]; of an
+    /// unknown one its code alone, or [`OTHER`]; no record with 0, 10 and 11.
+    /// With 1 which part of its rule, [`SHORT`], [`UNENDED`] or [`OTHER_END`];
+    /// the last has one more with the code and variant of the line.
     pub record: &'static str,
     pub column: usize,
     pub after: &'static str,
@@ -238,7 +284,7 @@ fn of_records(ending: Ending) -> Vec<Met> {
     let met = |answer, record, column| Met::new(ending, answer, record, column, ANY);
     let mut all = vec![met(0, NONE, 0), Met::new(ending, 11, NONE, 0, "9999A")];
     all.extend(LIMITS.map(|column| met(8, "0100A", column)));
-    for field in FIELDS {
+    for field in FIELDS.into_iter().chain(UNCHECKED) {
         all.extend(field.answers.iter().map(|&answer| met(answer, field.code, field.column)));
     }
     for code in CODES {
@@ -341,6 +387,24 @@ mod tests {
     }
 
     #[test]
+    fn unchecked_types_have_the_fields_of_any_transaction() {
+        for field in UNCHECKED {
+            let (begins, detail) = field.unchecked().unwrap();
+            assert!(["0100A0000", "0100A0003", "0100A1002"].contains(&begins));
+            let other = if begins == "0100A1002" { 22 } else { 32 };
+            assert!(match detail {
+                Detail::Digits(digits) => (8..=10).contains(&digits) && field.column == other,
+                Detail::And(second) => field.column < second && field.column <= other,
+            });
+            let at_column = |row: &&Field| (row.code, row.column) == ("0100A", field.column);
+            let of_any = FIELDS.iter().find(at_column).unwrap();
+            assert!(field.answers.iter().all(|answer| of_any.answers.contains(answer)));
+            assert_eq!(Field { code: "0100A", answers: of_any.answers, ..field }, *of_any);
+        }
+        assert!(FIELDS.iter().all(|field| field.unchecked().is_none()));
+    }
+
+    #[test]
     fn every_answer_is_there_once() {
         let all = reachable();
         for ending in Ending::BOTH {
@@ -351,7 +415,9 @@ mod tests {
             assert_eq!(of(1), 3 * 13 + 15);
             // 14 places and 14 records, less those that always fit.
             assert_eq!(of(3), 14 * 14 - 27);
-            assert_eq!([4, 5, 6, 7, 9].map(of), [45, 21, 4, 9, 3]);
+            // Of fields, and of unchecked types.
+            assert_eq!([4, 5, 6, 7].map(of), [45 + 5, 21 + 5, 4 + 11, 9 + 2]);
+            assert_eq!([9, 14].map(of), [3, 2 + 10]);
         }
         assert_eq!(all.iter().filter(|met| met.ending == Ending::Unknown).count(), 3);
         assert!(all.iter().all(|met| met.field().is_some() == (met.column > 0)));

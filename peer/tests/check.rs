@@ -101,6 +101,17 @@ fn answers_2_to_7() {
 }
 
 #[test]
+fn answer_14() {
+    refused(
+        5,
+        "0100A000300000000255001234567890123456789",
+        32,
+        "beneficiary: the types 0000, 0003 and 1002 are for accounts of seven digits or fewer \
+         only (answer 14)",
+    );
+}
+
+#[test]
 fn answer_8() {
     const WORDS: &str = "the batch has one item too many, or its total is too large (answer 8)";
     let largest = transaction("0005", 45_378_021_608, 123_456_789, 1);

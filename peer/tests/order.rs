@@ -7,7 +7,7 @@ use common::*;
 #[test]
 fn the_order_of_payment_records() {
     let plain = transaction("0005", 1, 123_456_789, 1234);
-    let unchecked = transaction("0003", 1, 123_456_789, 123_456_789);
+    let unchecked = transaction("0003", 1, 123_456_789, 1234);
     let close = trailer(1, 123_458_023, 1);
     let (reference, own, name, city) = ("0150AR", "0160AD", "0170BN", "0173B");
     let good = (0, 0);
@@ -48,7 +48,7 @@ fn the_order_of_payment_records() {
 #[test]
 fn the_order_of_debit_records() {
     let plain = transaction("1001", 1, 1234, 123_456_789);
-    let unchecked = transaction("1002", 1, 123_456_789, 123_456_789);
+    let unchecked = transaction("1002", 1, 1234, 123_456_789);
     let close = trailer(1, 123_458_023, 1);
     let (reference, own, name, city) = ("0150AR", "0160AD", "0110BN", "0113B");
     let good = (0, 0);

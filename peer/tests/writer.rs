@@ -41,6 +41,39 @@ fn what_the_reader_refuses() {
 }
 
 #[test]
+fn an_unchecked_type_with_an_ordinary_account() {
+    let other = |kind, account| match kind {
+        TransactionType::Debit | TransactionType::UncheckedDebit => {
+            Transaction { kind, amount: 1, payer: account, beneficiary: 123_456_789 }
+        }
+        _ => Transaction { kind, amount: 1, payer: 123_456_789, beneficiary: account },
+    };
+    for (kind, column) in [
+        (TransactionType::UncheckedCreditor, 32),
+        (TransactionType::UncheckedSalary, 32),
+        (TransactionType::UncheckedDebit, 22),
+    ] {
+        let state = State {
+            lines: 3,
+            place: Place::OrderingParty,
+            group: kind.group(),
+            account: 123_456_789,
+            ..State::new()
+        };
+        let writer = Writer { state };
+        let write =
+            |account| writer.write(&Entry::Transaction(other(kind, account)), &mut [7; 52], 0);
+        for account in [123_456_789, 1_000_000_001] {
+            let refused = Written { answer: answer(14, 4, column), writer, filled: 0 };
+            assert_eq!(write(account), refused);
+        }
+        assert_eq!(write(9_999_999).answer, answer(0, 4, 0));
+        assert_eq!(write(10_000_000).answer, answer(6, 4, column));
+        assert_eq!(write(10_000_000_000).answer, answer(4, 4, column));
+    }
+}
+
+#[test]
 fn room_comes_last() {
     let writer = Writer::new();
     let mut room = [0; 104];

@@ -13,14 +13,15 @@ use lib.Seq.{drop-cons}
 use lib.Dec.{leb, eqb}
 use mir.Val.{Fits}
 use mir.Syntax.{w64}
-use Rattle.machine.specs.Lists.{all, isDigit}
+use Rattle.machine.specs.Lists.{pick, all, isDigit}
 use Rattle.machine.specs.Digits.{valueAfter, valueOf}
 use Rattle.machine.proofs.Base.{and-first, and-second}
 use Rattle.format.specs.Rules.{isEleven, isOrderingAccount, isSevenDigits, isAccount, weighted, isOwnIf, isSevenIf}
-use Rattle.format.specs.Tests.{rangeTests}
+use Rattle.format.specs.Answers.{differs, ordinaryAccount}
+use Rattle.format.specs.Tests.{Test, test, rangeTests}
 use Rattle.field.specs.declared.numbers.Numeric.{Numeric}
-use Rattle.field.specs.Leaf.{TenDigits, weighedSum, numericOf}
-use Rattle.field.proofs.Numerics.{is-digits, next-low, next-high, next-left}
+use Rattle.field.specs.Leaf.{TenDigits, weighedSum, wrongAs, numericOf}
+use Rattle.field.proofs.Numerics.{firstOf, is-digits, next-low, next-high, next-left, is-right}
 use Rattle.field.proofs.Rows.{of-value}
 
 -- ## The sum, digit by digit
@@ -138,31 +139,34 @@ ten-digits low high m q e z =
       value = of-value (rangeTests low high) (take 10 m) e z ∙ ap valueOf (sym q);
     }
 
--- ## The own account, where it has to be, and seven digits, where they are asked of the other party
+-- ## Whose account it is
 
-module _ {mine : Bool} (own v : ℕ) where
-  pub own-mine : mine ≡ true → eqb v own ≡ isOwnIf mine own v
-  unfolding isOwnIf
-  own-mine h = rw h
-
-  pub own-other : mine ≡ false → true ≡ isOwnIf mine own v
-  unfolding isOwnIf
-  own-other h = rw h
-
-pub ruleset owns = (own-mine, own-other)
-
-module _ {mine : Bool} (unchecked : Bool) (v : ℕ) where
-  pub seven-own : mine ≡ true → true ≡ isSevenIf (not mine && unchecked) v
+module _ {asked : Bool} (f : Numeric) where
+  pub seven-yes : {short : Bool} → asked ≡ true → short ≡ isSevenDigits (f .value) → short ≡ true → isSevenIf asked (f .value) ≡ true
   unfolding isSevenIf
-  seven-own h = rw h
+  seven-yes h e s = rw h (sym e ∙ s)
 
-  module _ (h : mine ≡ false) where
-    pub seven-asked : {x : Bool} → unchecked ≡ true → x ≡ isSevenDigits v → x ≡ isSevenIf (not mine && unchecked) v
-    unfolding isSevenIf
-    seven-asked u p = rw (h, u) p
+  pub seven-no : {short : Bool} → asked ≡ true → short ≡ isSevenDigits (f .value) → short ≡ false → isSevenIf asked (f .value) ≡ false
+  unfolding isSevenIf
+  seven-no h e s = rw h (sym e ∙ s)
 
-    pub seven-free : unchecked ≡ false → true ≡ isSevenIf (not mine && unchecked) v
-    unfolding isSevenIf
-    seven-free u = rw (h, u)
+  pub seven-free : asked ≡ false → isSevenIf asked (f .value) ≡ true
+  unfolding isSevenIf
+  seven-free h = rw h
 
-pub ruleset sevens = (seven-own, seven-asked, seven-free)
+pub ruleset sevens = (seven-yes, seven-no, seven-free)
+
+-- what is asked of an account, by whose it is
+abbrev roleTests : Bool → ℕ → Bool → ℕ → List Test
+roleTests mine own unchecked v = test (isOwnIf mine own v) differs ∷ test (isSevenIf (not mine && unchecked) v) ordinaryAccount ∷ []
+
+module _ {mine : Bool} {r : Numeric} (f : Numeric) (own : ℕ) (unchecked : Bool) (z : f .number ≡ 0) where
+  pub is-own : mine ≡ true → r ≡ pick (eqb (f .value) own) f (wrongAs differs) → r ≡ firstOf (roleTests mine own unchecked (f .value)) (f .value)
+  unfolding isOwnIf isSevenIf pick
+  is-own h e = rw h (e ∙ ap (λ g. pick (eqb (f .value) own) g (wrongAs differs)) (is-right f z))
+
+  pub is-other : mine ≡ false → r ≡ pick (isSevenIf unchecked (f .value)) f (wrongAs ordinaryAccount) → r ≡ firstOf (roleTests mine own unchecked (f .value)) (f .value)
+  unfolding isOwnIf pick
+  is-other h e = rw h (e ∙ ap (λ g. pick (isSevenIf unchecked (f .value)) g (wrongAs ordinaryAccount)) (is-right f z))
+
+pub ruleset roles = (is-own, is-other)

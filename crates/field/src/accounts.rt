@@ -1,12 +1,14 @@
 // Accounts.
 ghost use mathlib.Core.Path.{_≡_};
-ghost use mathlib.Core.Bool.{true, not, _&&_};
+ghost use mathlib.Core.Bool.{true};
 ghost use Prim.Native.Nat.{_≤_};
 ghost use lib.ListN.{length, take, drop};
-ghost use Rattle.machine.specs.Lists.{all, isDigit};
-ghost use Rattle.format.specs.Rules.{maxAccount, isOrderingAccount, isSevenDigits, isAccount, isOwnIf, isSevenIf};
+ghost use lib.Dec.{eqb};
+ghost use Rattle.machine.specs.Lists.{pick, all, isDigit};
+ghost use Rattle.format.specs.Rules.{maxAccount, isOrderingAccount, isSevenDigits, isAccount, isSevenIf};
+ghost use Rattle.format.specs.Answers.{differs, ordinaryAccount};
 ghost use Rattle.format.specs.Tests.{rangeTests, orderingTests, partyTests};
-ghost use Rattle.field.specs.Leaf.{TenDigits, weighedSum, numericOf};
+ghost use Rattle.field.specs.Leaf.{TenDigits, weighedSum, wrongAs, numericOf};
 use crate::bytes::part;
 use crate::numbers::Numeric;
 use crate::numbers::digits_at;
@@ -82,21 +84,30 @@ pub fn ordering(line: &[u8], at: usize) -> Numeric
     }
 }
 
-// The ordering account, where it has to be the own one.
-fn is_own_if(mine: bool, own: u64, v: u64) -> bool
-    ensures { λ r. ⌜ r ≡ isOwnIf mine own v ⌝ }
+// The own account, which has to be the ordering account; f is a number that is an account.
+fn own_party(f: Numeric, own: u64) -> Numeric
+    ensures { λ r. ⌜ r ≡ pick (eqb (f .value) own) f (wrongAs differs) ⌝ }
 {
-    if mine { v == own } else { true }
+    if f.value == own {
+        f
+    } else {
+        wrong(format::DIFFERS)
+    }
 }
 
-// At most seven digits, where it is the other party of an unchecked type.
-fn is_seven_if(mine: bool, unchecked: bool, v: u64) -> bool
-    ensures { λ r. ⌜ r ≡ isSevenIf (not mine && unchecked) v ⌝ }
+// The other party's, which has seven digits at most where the type is unchecked.
+fn other_party(f: Numeric, unchecked: bool) -> Numeric
+    ensures { λ r. ⌜ r ≡ pick (isSevenIf unchecked (f .value)) f (wrongAs ordinaryAccount) ⌝ }
 {
-    if mine {
-        return true;
+    if unchecked {
+        if is_seven_digits(f.value) {
+            f
+        } else {
+            wrong(format::ORDINARY_ACCOUNT)
+        }
+    } else {
+        f
     }
-    if unchecked { is_seven_digits(v) } else { true }
 }
 
 // An account of a transaction: the own one, or the other party's.
@@ -108,14 +119,10 @@ pub fn party(line: &[u8], at: usize, mine: bool, own: u64, unchecked: bool) -> N
         return f;
     }
     if is_account(part(line, at, 10), f.value) {
-        if is_own_if(mine, own, f.value) {
-            if is_seven_if(mine, unchecked, f.value) {
-                f
-            } else {
-                wrong(format::ORDINARY_ACCOUNT)
-            }
+        if mine {
+            own_party(f, own)
         } else {
-            wrong(format::DIFFERS)
+            other_party(f, unchecked)
         }
     } else {
         wrong(format::WRONG_ACCOUNT)

@@ -84,6 +84,12 @@ abbrev pub partyTests : Bool → ℕ → Bool → ℕ → List Test
 partyTests mine own unchecked v =
     rangeTest 1 maxAccount v ∷ test (isAccount v) wrongAccount ∷ test (isOwnIf mine own v) differs ∷ test (isSevenIf (not mine && unchecked) v) ordinaryAccount ∷ []
 
+abbrev pub payerTests : Group → ℕ → TypeRead → ℕ → List Test
+payerTests g own t = partyTests (sameGroup Payments g) own (isUncheckedType t)
+
+abbrev pub beneficiaryTests : Group → ℕ → TypeRead → ℕ → List Test
+beneficiaryTests g own t = partyTests (sameGroup Debits g) own (isUncheckedType t)
+
 -- a trailer's number, which may be zero or not
 abbrev pub equalTests : ℕ → ℕ → List Test
 equalTests right v = test (eqb v right) wrongTrailer ∷ []
@@ -113,8 +119,7 @@ orderingPartyTests g x = (nameCodeTests g (nameCode x), (desiredTests (desiredDa
 
 abbrev pub transactionTests : Group → ℕ → Fields Transaction → Tests (layout Transaction)
 transactionTests g own x =
-    let unchecked = isUncheckedType (typeOf (type x)) in
-    (typeTests g (typeOf (type x)), (amountTests (amount x), (partyTests (sameGroup Payments g) own unchecked (payer x), (partyTests (sameGroup Debits g) own unchecked (beneficiary x), ([], tt)))))
+    (typeTests g (typeOf (type x)), (amountTests (amount x), (payerTests g own (typeOf (type x)) (payer x), (beneficiaryTests g own (typeOf (type x)) (beneficiary x), ([], tt)))))
 
 abbrev pub batchTrailerTests : ℕ → ℕ → ℕ → Fields BatchTrailer → Tests (layout BatchTrailer)
 batchTrailerTests total accounts count x = (totalTests 1 maxTotal total (totalAmount x), (equalTests accounts (totalAccounts x), (totalTests 1 maxItems count (items x), ([], tt))))

@@ -37,6 +37,10 @@ use Rattle.reading.specs.declared.State.{State}
 use Rattle.reading.specs.declared.Judged.{Judged}
 use Rattle.reading.proofs.Verdicts.{First, beyond, halted, moved, first}
 
+-- with the state as it was
+pub refused-with : {u : State} (s : State) (column number : ℕ) → u ≡ s → _≡_ {A = Judged} (record { number = number; column = column; bytes = 0; code = Unknown; next = u }) (refused s column number)
+refused-with s column number e = ap (λ u. refused u column number) e
+
 -- ## Any kind
 
 -- but for a transaction

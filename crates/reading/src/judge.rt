@@ -10,6 +10,7 @@ ghost use Rattle.record.specs.Kinds.{isTransaction};
 ghost use Rattle.reading.specs.Step.{refused, judgedAs, judgedKind, judgedLine, withEnding, withCut, judgedFirst};
 ghost use Rattle.reading.specs.Check.{judgedAfter, judgedLines};
 use crate::Judged;
+use crate::OpenItem;
 use crate::State;
 use field::bytes::part;
 use format::Code;
@@ -46,15 +47,47 @@ fn is_transaction(k: Kind) -> bool
 }
 
 impl State {
+    // The state as it is, field by field: where a struct in it is copied whole, the compiler copies it for every line.
+    fn rebuilt(self) -> State
+        ensures { λ r. ⌜ r ≡ self ⌝ }
+    {
+        let last = self.before;
+        let group = last.group;
+        let ending = last.ending;
+        let before = Before {
+            sequence: last.sequence,
+            group,
+            known: last.known,
+            ending,
+        };
+        let batch = self.batch;
+        let stage = self.stage;
+        let open = self.item;
+        let name = open.name;
+        let item = OpenItem {
+            name,
+            reference: open.reference,
+            descriptions: open.descriptions,
+        };
+        State {
+            line: self.line,
+            before,
+            batch,
+            stage,
+            item,
+        }
+    }
+
     pub(crate) fn refused(self, number: u8, column: u8) -> Judged
         ensures { λ r. ⌜ r ≡ refused self column number ⌝ }
     {
+        let next = self.rebuilt();
         Judged {
             number,
             column,
             bytes: 0,
             code: Code::Unknown,
-            next: self,
+            next,
         }
     }
 

@@ -14,7 +14,7 @@ use Rattle.format.specs.Fields.{Field, numeric, filled, filler, width, wellForm
 use Rattle.format.specs.Answers.{aboveMaximum}
 use Rattle.format.specs.Records.{layout, group, type, amount}
 use Rattle.format.specs.Rules.{maxAmount, maxTotal, maxItems, maxAccount, sameGroup, typeOf, isType, isUncheckedType}
-use Rattle.format.specs.Tests.{Tests, typeTests, amountTests, partyTests, transactionTests}
+use Rattle.format.specs.Tests.{Tests, typeTests, amountTests, partyTests, payerTests, beneficiaryTests, transactionTests}
 use Rattle.format.specs.declared.Kind.the-variants.{Transaction}
 use Rattle.format.specs.declared.Group.{Group}
 use Rattle.format.specs.declared.Group.the-variants.{Payments, Debits}
@@ -66,28 +66,25 @@ type-row g l e h = h ∙ ap (λ t. fieldAnswer (filled 4) (typeTests g t) l) e
 pub party-via : {r : Numeric} {m u : Bool} (n w : Bool) (own : ℕ) (l : List ℕ) → m ≡ n → u ≡ w → r ≡ numericOf (partyTests m own u) l → r ≡ numericOf (partyTests n own w) l
 party-via n w own l e f h = h ∙ ap₂ (λ m u. numericOf (partyTests m own u) l) e f
 
--- of a type that a call read
-party-of : {t : TypeRead} {r : Numeric} (mine : Bool) (own : ℕ) (k l : List ℕ) → t ≡ typeOf k → r ≡ numericOf (partyTests mine own (isUncheckedType t)) l → r ≡ numericOf (partyTests mine own (isUncheckedType (typeOf k))) l
-party-of mine own k l e h = h ∙ ap (λ t. numericOf (partyTests mine own (isUncheckedType t)) l) e
-
+-- by the type that a call read
 pub party-row : {t : TypeRead} {r : Numeric} (mine : Bool) (own : ℕ) (k m : List ℕ) → t ≡ typeOf k → r ≡ numericOf (partyTests mine own (isUncheckedType t)) (take 10 m)
     → r .number ≡ fieldAnswer (numeric 10) (partyTests mine own (isUncheckedType (typeOf k)) (valueOf (take 10 m))) (take 10 m)
-party-row mine own k m e h = of-row (partyTests mine own (isUncheckedType (typeOf k))) 10 m (party-of mine own k (take 10 m) e h) refl refl
+party-row mine own k m e h = of-row (partyTests mine own (isUncheckedType (typeOf k))) 10 m (h ∙ ap (λ t. numericOf (partyTests mine own (isUncheckedType t)) (take 10 m)) e) refl refl
 
 -- where no row has a number
 pub all-taken : {x : TransactionRead} {t : TypeRead} {kind rest : ℕ} {amount payer beneficiary : Numeric} (g : Group) (own : ℕ) (l : List ℕ)
     → x ≡ takenTransaction t (amount .value) (payer .value) (beneficiary .value)
     → t ≡ typeOf (take 4 (drop 5 l)) → kind ≡ fieldAnswer (filled 4) (typeTests g t) (take 4 (drop 5 l)) → kind ≡ 0
     → amount ≡ numericOf amountTests (take 12 (drop 9 l)) → amount .number ≡ 0
-    → payer ≡ numericOf (partyTests (sameGroup Payments g) own (isUncheckedType t)) (take 10 (drop 21 l)) → payer .number ≡ 0
-    → beneficiary ≡ numericOf (partyTests (sameGroup Debits g) own (isUncheckedType t)) (take 10 (drop 31 l)) → beneficiary .number ≡ 0
+    → payer ≡ numericOf (payerTests g own t) (take 10 (drop 21 l)) → payer .number ≡ 0
+    → beneficiary ≡ numericOf (beneficiaryTests g own t) (take 10 (drop 31 l)) → beneficiary .number ≡ 0
     → rest ≡ fieldAnswer (filler 9) [] (take 9 (drop 41 l)) → rest ≡ 0
     → x ≡ transactionOf g own l
 unfolding transactionOf
 all-taken {t = y} g own l h t k k0 a a0 p p0 b b0 f f0 =
     let va = of-value amountTests (take 12 (drop 9 l)) a a0 in
-    let vp = of-value (partyTests (sameGroup Payments g) own (isUncheckedType y)) (take 10 (drop 21 l)) p p0 in
-    let vb = of-value (partyTests (sameGroup Debits g) own (isUncheckedType y)) (take 10 (drop 31 l)) b b0 in
+    let vp = of-value (payerTests g own y) (take 10 (drop 21 l)) p p0 in
+    let vb = of-value (beneficiaryTests g own y) (take 10 (drop 31 l)) b b0 in
     row-next _ _ _ _ _ (type-row g (take 4 (drop 5 l)) t k) k0
     (row-next _ _ _ _ _ (of-row amountTests 12 (drop 9 l) a refl refl) a0
     (row-next _ _ _ _ _ (party-row (sameGroup Payments g) own (take 4 (drop 5 l)) (drop 21 l) t p) p0

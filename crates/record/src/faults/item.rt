@@ -1,7 +1,7 @@
 // A transaction's fields, and what is wrong in them from the left, then in the batch with it.
 ghost use mathlib.Core.Path.{_≡_};
-ghost use Rattle.format.specs.Rules.{sameGroup, isUncheckedType};
-ghost use Rattle.format.specs.Tests.{amountTests, partyTests};
+ghost use Rattle.format.specs.Rules.{sameGroup};
+ghost use Rattle.format.specs.Tests.{amountTests, payerTests, beneficiaryTests};
 ghost use Rattle.format.specs.declared.Group.the-variants.{Payments, Debits};
 ghost use Rattle.field.specs.Rows.{partAt};
 ghost use Rattle.field.specs.Leaf.{numericOf};
@@ -49,13 +49,13 @@ fn amount_in(line: &[u8]) -> Numeric
 }
 
 fn payer_in(line: &[u8], t: TypeRead, group: Group, own: u64) -> Numeric
-    ensures { λ r. ⌜ r ≡ numericOf (partyTests (sameGroup Payments group) own (isUncheckedType t)) (partAt 22 10 (now (line .entry))) ⌝ }
+    ensures { λ r. ⌜ r ≡ numericOf (payerTests group own t) (partAt 22 10 (now (line .entry))) ⌝ }
 {
     party(line, 21, is_payments(group), own, is_unchecked_type(t))
 }
 
 fn beneficiary_in(line: &[u8], t: TypeRead, group: Group, own: u64) -> Numeric
-    ensures { λ r. ⌜ r ≡ numericOf (partyTests (sameGroup Debits group) own (isUncheckedType t)) (partAt 32 10 (now (line .entry))) ⌝ }
+    ensures { λ r. ⌜ r ≡ numericOf (beneficiaryTests group own t) (partAt 32 10 (now (line .entry))) ⌝ }
 {
     party(line, 31, is_debits(group), own, is_unchecked_type(t))
 }

@@ -10,6 +10,7 @@
 
 mod reports;
 mod shapes;
+mod unchecked;
 
 use std::collections::BTreeMap;
 use std::io::{self, BufRead, Read};
@@ -148,8 +149,19 @@ fn met_by_file(file: &[u8], answer: u8, line: usize, column: usize) -> Vec<Met> 
         2 => vec![met(code_of(here), ANY), met(ANY, after)],
         3 => vec![met(record_of(here), after)],
         10 | 11 => vec![met(NONE, after)],
-        _ => vec![met(record_of(here), ANY)],
+        _ => {
+            let own = (1..line).rev().find_map(|before| ordering_account(from(before - 1)));
+            let mut codes = vec![record_of(here)];
+            codes.extend(unchecked::codes(here, own.unwrap_or_default(), answer, column));
+            codes.into_iter().map(|code| met(code, ANY)).collect()
+        }
     }
+}
+
+/// What stands in that field of the line that these bytes begin with; none if
+/// it is no batch header.
+fn ordering_account(here: &[u8]) -> Option<&[u8]> {
+    here.starts_with(b"0010").then(|| here.get(7..17))?
 }
 
 /// Code and variant of the line that these bytes begin with.

@@ -20,6 +20,15 @@ fn item(kind: &str, reference: bool, own: usize) -> String {
     format!("item {kind} {with} reference, {own} descriptions")
 }
 
+fn parties(kind: &str, own: usize, other: usize) -> String {
+    format!("item {kind} with an own account of {own} digits and another of {other}")
+}
+
+/// An item with the largest seven-digit account as its other party.
+fn largest_seven(kind: &str) -> String {
+    format!("item {kind} with 9999999")
+}
+
 fn batch(header: &str, group: &str, fixed: usize) -> String {
     format!("batch {header} group {group}, {fixed} fixed descriptions")
 }
@@ -40,6 +49,12 @@ fn shapes() -> Vec<String> {
     for kind in ["0000", "0003", "0005", "0008", "1001", "1002"] {
         all.extend((0..=4).map(|own| item(kind, false, own)));
         all.extend((0..=3).map(|own| item(kind, true, own)));
+        all.push(largest_seven(kind));
+        // "0000, 0003 and 1002 to seven-digit accounts only"
+        let unchecked = matches!(kind, "0000" | "0003" | "1002");
+        for &other in if unchecked { &[7][..] } else { &[7, 9, 10] } {
+            all.extend([9, 10].map(|own| parties(kind, own, other)));
+        }
     }
     for (header, group) in [("0010B", "00"), ("0010B", "10"), ("0010C", "00"), ("0010C", "10")] {
         all.extend((0..=4).map(|fixed| batch(header, group, fixed)));
@@ -82,7 +97,9 @@ fn of_line(line: &str, after: &[&str]) -> Vec<String> {
         "0100" => {
             let after = &after[run("011", after)..];
             let reference = run("0150", after);
-            vec![item(&line[5..9], reference == 1, run("0160", &after[reference..]))]
+            let mut shapes = of_parties(line);
+            shapes.push(item(&line[5..9], reference == 1, run("0160", &after[reference..])));
+            shapes
         }
         "0113" | "0173" => single("city", &line[..5]).into_iter().collect(),
         "9990" => [("total", 5..23), ("accounts", 23..33), ("items", 33..40)]
@@ -91,4 +108,21 @@ fn of_line(line: &str, after: &[&str]) -> Vec<String> {
             .collect(),
         _ => vec![],
     }
+}
+
+/// What the accounts of an item show.
+fn of_parties(line: &str) -> Vec<String> {
+    let (kind, payer, beneficiary) = (&line[5..9], &line[21..31], &line[31..41]);
+    let debit = kind.starts_with('1');
+    let (own, other) = if debit { (beneficiary, payer) } else { (payer, beneficiary) };
+    let mut shapes = vec![parties(kind, digits(own), digits(other))];
+    if other == "0009999999" {
+        shapes.push(largest_seven(kind));
+    }
+    shapes
+}
+
+/// How many digits an account has; fewer than seven count as seven.
+fn digits(account: &str) -> usize {
+    account.trim_start_matches('0').len().max(7)
 }

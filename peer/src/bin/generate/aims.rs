@@ -1,12 +1,16 @@
 //! One file for each answer of the table.
 
-use peer::table::{reachable, Class, Field, Met, ANY, CODES, FIELDS, OTHER, SHORT, START, UNENDED};
+use peer::table::{
+    reachable, Class, Detail, Field, Met, ANY, CODES, FIELDS, OTHER, SHORT, START, UNCHECKED,
+    UNENDED,
+};
 use peer::Ending;
 
 use crate::bytes::after_the_trailer;
 use crate::ends;
 use crate::faults;
 use crate::line::{join, End, Line};
+use crate::plan::is_unchecked;
 use crate::random::Random;
 use crate::records::stray;
 use crate::scenarios::over_the_total;
@@ -48,23 +52,47 @@ fn ends_in(lines: &[Line], code: &str) -> bool {
 }
 
 fn of_field(random: &mut Random, aim: Met) -> Vec<Line> {
+    let mut rows = FIELDS.into_iter().chain(UNCHECKED);
     let is_it = |field: &Field| (field.code, field.column) == (aim.record, aim.column);
-    let field = FIELDS.into_iter().find(is_it).expect("only fields have these answers");
-    let fits = |lines: &[Line]| {
-        ends_in(lines, field.code) && (aim.answer != 7 || can_differ(lines, field))
-    };
+    let field = rows.find(is_it).expect("only fields have these answers");
+    let detail = field.unchecked();
+    let begins = detail.map_or(field.code, |(begins, _)| begins);
+    let fits = |lines: &[Line]| ends_in(lines, begins) && can_have(lines, field, aim.answer);
     let (mut lines, upto) = valid::with_place(random, fits);
-    faults::put(random, &mut lines[upto - 1], field, aim.answer);
+    let line = &mut lines[upto - 1];
+    faults::put(random, line, field, aim.answer);
+    match detail {
+        Some((_, Detail::Digits(digits))) => {
+            while line.number(field.column, 10).to_string().len() != digits {
+                faults::put(random, line, field, aim.answer);
+            }
+        }
+        Some((_, Detail::And(column))) => second_fault(random, line, column, aim.answer),
+        None => {}
+    }
     lines
 }
 
-/// Is there something that this field of the last line can differ from?
-fn can_differ(lines: &[Line], field: Field) -> bool {
+/// Another fault in the transaction; one of the two is 14.
+fn second_fault(random: &mut Random, line: &mut Line, column: usize, first: u8) {
+    let is_it = |field: &Field| (field.code, field.column) == ("0100A", column);
+    let field = FIELDS.into_iter().find(is_it).expect("the table has its column");
+    let fitting = |&answer: &u8| (answer == 14) != (first == 14);
+    let answers: Vec<u8> = field.answers.iter().copied().filter(fitting).collect();
+    let answer = *random.pick(&answers);
+    faults::put(random, line, field, answer);
+}
+
+/// Can this field of the last line have this answer? 7 needs something to
+/// differ from, 14 an unchecked type and the other party's field.
+fn can_have(lines: &[Line], field: Field, answer: u8) -> bool {
     let debits = lines.len() > 1 && lines[1].text(6, 2) == "10";
-    match field.class {
-        Class::Group | Class::Sequence => lines.len() > 2,
-        Class::NameCode => debits,
-        Class::Account => debits == (field.column == 32),
+    let is_own = debits == (field.column == 32);
+    match (answer, field.class) {
+        (7, Class::Group | Class::Sequence) => lines.len() > 2,
+        (7, Class::NameCode) => debits,
+        (7, Class::Account) => is_own,
+        (14, _) => !is_own && lines.last().is_some_and(|line| is_unchecked(&line.text(6, 4))),
         _ => true,
     }
 }

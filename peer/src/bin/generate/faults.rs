@@ -6,7 +6,8 @@ use crate::line::Line;
 use crate::random::Random;
 use crate::special::largest;
 use crate::values::{
-    any_account, eight_digit_account, failing_account, impossible_date, seven_digit_account,
+    any_account, eight_digit_account, failing_account, impossible_date, ordinary_account,
+    seven_digit_account,
 };
 
 /// Puts something into this field of a good line that is answered so.
@@ -17,6 +18,7 @@ pub fn put(random: &mut Random, line: &mut Line, field: Field, answer: u8) {
         5 => wrong_value(random, line, field),
         6 => number(field, wrong_account(random, field)),
         7 => another(random, field, now),
+        14 => number(field, ordinary_account(random)),
         _ => number(field, wrong_number(random, field, now)),
     };
     line.set(field.column, content);

@@ -6,7 +6,7 @@ use crate::line::Line;
 use crate::plan::{file_of, Extras, Plan};
 use crate::random::Random;
 use crate::spoil::spoil_field;
-use crate::values::{any_account, ordinary_account, LARGEST_TOTAL};
+use crate::values::{any_account, ordinary_account, seven_digit_account, LARGEST_TOTAL};
 
 /// Which of them file `index` is: of each of the first eight thousands two,
 /// one with each line end.
@@ -21,7 +21,6 @@ pub fn scenario(index: u64) -> Option<(u64, Ending)> {
 
 pub fn file(random: &mut Random, scenario: u64) -> Vec<Line> {
     let debits = random.coin();
-    let name_lacks = if debits { b"1002" } else { b"0000" };
     let mut lines = match scenario {
         0 => over_the_total_too(random, debits),
         3 => many_batches(random, debits),
@@ -33,13 +32,19 @@ pub fn file(random: &mut Random, scenario: u64) -> Vec<Line> {
     match scenario {
         // Another fault on item 100,001 comes first.
         1 => spoil_field(random, &mut lines[trailer - 1]),
-        // The item before it lacks its name.
-        2 => lines[trailer - 2].set(6, name_lacks),
+        2 => lacks_its_name(random, &mut lines[trailer - 2], debits),
         // The trailer counts one more than there may be.
         6 => lines[trailer].set(34, b"0100001"),
         _ => {}
     }
     lines
+}
+
+/// The item before item 100,001 is of an unchecked type without its name.
+fn lacks_its_name(random: &mut Random, line: &mut Line, debits: bool) {
+    let (kind, column) = if debits { ("1002", 22) } else { ("0000", 32) };
+    line.set(6, kind);
+    line.set(column, format!("{:010}", seven_digit_account(random)));
 }
 
 fn many_batches(random: &mut Random, debits: bool) -> Vec<Line> {

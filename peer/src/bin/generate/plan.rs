@@ -4,7 +4,7 @@ use crate::line::Line;
 use crate::random::Random;
 use crate::records;
 use crate::values::{
-    amount, any_account, eleven_rest, ordinary_account, LARGEST_AMOUNT, TEN_DIGITS,
+    amount, any_account, eleven_rest, is_ordinary, ordinary_account, LARGEST_AMOUNT, TEN_DIGITS,
 };
 
 /// A batch: its ordering account, and an amount and another party for every
@@ -57,7 +57,7 @@ impl Plan {
                 self.others[..last].iter().sum::<u64>() + self.account * (last as u64 + 1);
             let needed = (ending + TEN_DIGITS - sum % TEN_DIGITS) % TEN_DIGITS;
             let is_seven = (1..=9_999_999).contains(&needed);
-            let is_good = is_seven || needed >= 100_000_000 && eleven_rest(needed) == 0;
+            let is_good = is_seven || is_ordinary(needed) && eleven_rest(needed) == 0;
             if is_good && eleven_rest(self.account) == 0 {
                 self.others[last] = needed;
                 return;
@@ -80,13 +80,19 @@ pub enum Extras {
     All,
 }
 
-fn types(debits: bool, extras: Extras) -> &'static [&'static str] {
-    match (debits, extras) {
-        (true, Extras::None) => &["1001"],
-        (true, _) => &["1001", "1002"],
-        (false, Extras::None) => &["0005", "0008"],
-        (false, _) => &["0000", "0003", "0005", "0008"],
+/// The types of a group, all of them or those that are checked.
+fn types(debits: bool, all: bool) -> &'static [&'static str] {
+    match (debits, all) {
+        (true, false) => &["1001"],
+        (true, true) => &["1001", "1002"],
+        (false, false) => &["0005", "0008"],
+        (false, true) => &["0000", "0003", "0005", "0008"],
     }
+}
+
+/// Is this a type that needs a name and a seven-digit account?
+pub fn is_unchecked(kind: &str) -> bool {
+    matches!(kind, "0000" | "0003" | "1002")
 }
 
 /// The records after an 0100.
@@ -135,13 +141,13 @@ pub fn batch(
     lines.extend((0..fixed).map(|_| records::of_text(random, "0020A")));
     lines.push(records::party(random, debits));
     for (&cents, &other) in plan.amounts.iter().zip(&plan.others) {
-        let kind = *random.pick(types(debits, extras));
+        let all = extras != Extras::None && !is_ordinary(other);
+        let kind = *random.pick(types(debits, all));
         let (payer, beneficiary) =
             if debits { (other, plan.account) } else { (plan.account, other) };
         lines.push(records::transaction(kind, cents, payer, beneficiary));
         if extras != Extras::None {
-            let unchecked = matches!(kind, "0000" | "0003" | "1002");
-            push_extras(&mut lines, random, debits, unchecked, extras == Extras::All);
+            push_extras(&mut lines, random, debits, is_unchecked(kind), extras == Extras::All);
         }
     }
     lines.push(plan.trailer());

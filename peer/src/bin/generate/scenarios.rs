@@ -9,7 +9,7 @@ use crate::valid::{self, with_line};
 use crate::values::{LARGEST_AMOUNT, LARGEST_TOTAL, TEN_DIGITS};
 
 pub fn file(random: &mut Random) -> Vec<Line> {
-    match random.below(26) {
+    match random.below(28) {
         0 => over_the_total_and_more(random),
         1 | 2 => after_sequence_9999(random),
         3 | 4 => batch_of_the_other_group(random),
@@ -20,6 +20,7 @@ pub fn file(random: &mut Random) -> Vec<Line> {
         18 | 19 => name_or_city_added(random),
         20 | 21 => without_items(random),
         22 | 23 => wrong_sum(random),
+        24 | 25 => unchecked_over_the_total(random),
         _ => another_trailer(random),
     }
 }
@@ -41,6 +42,17 @@ fn over_the_total_and_more(random: &mut Random) -> Vec<Line> {
     let mut lines = over_the_total(random);
     let at = lines.len() - 1 - random.index(5);
     spoil_field(random, &mut lines[at]);
+    lines
+}
+
+/// The item over the total is of an unchecked type: its account comes first
+/// where that is an ordinary one.
+fn unchecked_over_the_total(random: &mut Random) -> Vec<Line> {
+    let mut lines = over_the_total(random);
+    // 101 items make the total.
+    let over = lines_with(&lines, "0100A")[101];
+    let kind = if lines[over].is("0100A1") { "1002" } else { *random.pick(&["0000", "0003"]) };
+    lines[over].set(6, kind);
     lines
 }
 

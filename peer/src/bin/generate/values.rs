@@ -46,6 +46,11 @@ pub fn failing_account(random: &mut Random) -> u64 {
     }
 }
 
+/// Has this good account nine or ten digits?
+pub fn is_ordinary(account: u64) -> bool {
+    account >= 100_000_000
+}
+
 pub fn seven_digit_account(random: &mut Random) -> u64 {
     match random.below(6) {
         0 => 1,
