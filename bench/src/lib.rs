@@ -15,7 +15,7 @@ const TEN_DIGITS: u64 = 10_000_000_000;
 pub struct Month {
     pub batches: u64,
     pub items: u64,
-    /// 1: a checked salary; 2: an unchecked salary and its name; 7: a
+    /// 1: a salary; 2: an unchecked salary and its name; 7: an unchecked
     /// creditor with reference, three descriptions, name and city.
     pub lines: u64,
     /// How each line ends: [`THIRTEEN_TEN`] or [`TEN`].
@@ -49,12 +49,12 @@ impl Month {
             total += amount;
             self.item(out, amount, item)?;
         }
-        let accounts = self.items * (ORDERING_ACCOUNT + self.kind().1) % TEN_DIGITS;
+        let accounts = self.items * (ORDERING_ACCOUNT + self.type_and_beneficiary().1) % TEN_DIGITS;
         self.line(out, &format!("9990A{total:018}{accounts:010}{:07}", self.items))
     }
 
-    /// The type of its items, and their beneficiary.
-    fn kind(&self) -> (&'static str, u64) {
+    /// Those of its items.
+    fn type_and_beneficiary(&self) -> (&'static str, u64) {
         match self.lines {
             1 => ("0008", SALARY_ACCOUNT),
             2 => ("0003", UNCHECKED_ACCOUNT),
@@ -63,7 +63,7 @@ impl Month {
     }
 
     fn item(&self, out: &mut impl Write, amount: u64, item: u64) -> io::Result<()> {
-        let (kind, account) = self.kind();
+        let (kind, account) = self.type_and_beneficiary();
         self.line(out, &format!("0100A{kind}{amount:012}{ORDERING_ACCOUNT:010}{account:010}"))?;
         if self.lines == 7 {
             self.line(out, &format!("0150A{item:016}"))?;

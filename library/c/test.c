@@ -79,6 +79,15 @@ static void filler(void)
     told("a filler", clieop_check(wrong, length), 4, 4, 49);
 }
 
+/* an unchecked salary to an account of nine digits */
+static void unchecked(void)
+{
+    uint8_t wrong[sizeof file];
+    memcpy(wrong, file, sizeof wrong);
+    memcpy(wrong + 5 * width + 31, "0111111110", 10);
+    told("an ordinary account", clieop_check(wrong, length), 14, 6, 32);
+}
+
 /* numbers and texts of 01's example */
 static void item(void)
 {
@@ -173,6 +182,7 @@ static void with(const char *end, const char *other)
     check();
     column();
     filler();
+    unchecked();
     item();
     no_item();
     small_arrays();

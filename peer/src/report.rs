@@ -70,7 +70,7 @@ fn words(answer: u8) -> &'static str {
         number::UNFINISHED => "the file ends before its file trailer",
         number::AFTER_TRAILER => "there is something after the file trailer",
         number::ORDINARY_ACCOUNT => {
-            "the types 0000, 0003 and 1002 are for accounts of seven digits or fewer only"
+            "the types 0000, 0003 and 1002 are only for accounts of seven digits or fewer"
         }
         _ => "no file is answered so",
     }

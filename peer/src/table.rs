@@ -122,9 +122,9 @@ pub const FIELDS: [Field; 45] = [
 ];
 
 /// Transactions of an unchecked type told apart further, for "0000, 0003 and
-/// 1002 to seven-digit accounts only". The code has the type as well, and then
-/// how many digits the other party has that is refused, or the column of a
-/// second fault, further right, one of the two being a 14.
+/// 1002 to seven-digit accounts only": `0100A1002-digits-9` is one of type 1002
+/// whose other party has nine digits and is refused, `0100A1002-and-32` one
+/// with a second fault at column 32, further right, of which one is a 14.
 pub const UNCHECKED: [Field; 18] = [
     field("0100A0000-digits-8", 32, 10, "beneficiary", Class::Account, &[6]),
     field("0100A0000-digits-9", 32, 10, "beneficiary", Class::Account, &[6, 14]),

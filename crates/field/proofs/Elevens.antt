@@ -2,7 +2,7 @@
 use Prim.Native.Nat.{ℕ, zero, suc, _+_, _-_, _*_, _/_, _%_, _<_, _≤_}
 use mathlib.Core.Path.{_≡_, refl, sym, ap, ap₂, _∙_}
 use mathlib.Core.List.{List, [], _∷_}
-use mathlib.Core.Bool.{Bool, true, false, not, _&&_}
+use mathlib.Core.Bool.{Bool, true, false}
 use native.Mathlib.Omega.{arith}
 use native.Mathlib.Nat.{mul-le-mul}
 use native.Mathlib.Numerals.{add-one}
@@ -18,7 +18,7 @@ use Rattle.machine.specs.Digits.{valueAfter, valueOf}
 use Rattle.machine.proofs.Base.{and-first, and-second}
 use Rattle.format.specs.Rules.{isEleven, isOrderingAccount, isSevenDigits, isAccount, weighted, isOwnIf, isSevenIf}
 use Rattle.format.specs.Answers.{differs, ordinaryAccount}
-use Rattle.format.specs.Tests.{Test, test, rangeTests}
+use Rattle.format.specs.Tests.{rangeTests, roleTests}
 use Rattle.field.specs.declared.numbers.Numeric.{Numeric}
 use Rattle.field.specs.Leaf.{TenDigits, weighedSum, wrongAs, numericOf}
 use Rattle.field.proofs.Numerics.{firstOf, is-digits, next-low, next-high, next-left, is-right}
@@ -142,23 +142,15 @@ ten-digits low high m q e z =
 -- ## Whose account it is
 
 module _ {asked : Bool} (f : Numeric) where
-  pub seven-yes : {short : Bool} → asked ≡ true → short ≡ isSevenDigits (f .value) → short ≡ true → isSevenIf asked (f .value) ≡ true
+  pub seven-asked : {short q : Bool} → asked ≡ true → short ≡ isSevenDigits (f .value) → short ≡ q → isSevenIf asked (f .value) ≡ q
   unfolding isSevenIf
-  seven-yes h e s = rw h (sym e ∙ s)
-
-  pub seven-no : {short : Bool} → asked ≡ true → short ≡ isSevenDigits (f .value) → short ≡ false → isSevenIf asked (f .value) ≡ false
-  unfolding isSevenIf
-  seven-no h e s = rw h (sym e ∙ s)
+  seven-asked h e s = rw h (sym e ∙ s)
 
   pub seven-free : asked ≡ false → isSevenIf asked (f .value) ≡ true
   unfolding isSevenIf
   seven-free h = rw h
 
-pub ruleset sevens = (seven-yes, seven-no, seven-free)
-
--- what is asked of an account, by whose it is
-abbrev roleTests : Bool → ℕ → Bool → ℕ → List Test
-roleTests mine own unchecked v = test (isOwnIf mine own v) differs ∷ test (isSevenIf (not mine && unchecked) v) ordinaryAccount ∷ []
+pub ruleset sevens = (seven-asked, seven-free)
 
 module _ {mine : Bool} {r : Numeric} (f : Numeric) (own : ℕ) (unchecked : Bool) (z : f .number ≡ 0) where
   pub is-own : mine ≡ true → r ≡ pick (eqb (f .value) own) f (wrongAs differs) → r ≡ firstOf (roleTests mine own unchecked (f .value)) (f .value)

@@ -45,6 +45,7 @@ fn is_ordering_account(s: &[u8], v: u64) -> bool
     }
 }
 
+// One to seven digits; v is not zero.
 fn is_seven_digits(v: u64) -> bool
     ensures { λ r. ⌜ r ≡ isSevenDigits v ⌝ }
 {

@@ -53,7 +53,7 @@ endings = (refl, (refl, (refl, (refl, (refl, (refl, ((refl, refl), ((refl, refl)
 
 uncheckeds : Each uncheckedCases
 unfolding pick same digitsOnto decimal valueAfter daysIn isDate isDesiredDate isTestCode isIdentification isOfDay weighted isEleven isOrderingAccount isAccount isOwnIf isSevenIf isNameCodeIn typeOf fieldAnswer firstOr codeOf debitCode batchCode fileCode firstFault faultOf isLimited within mayOpen mayFix mayEnd mayPay mayName allowed judgedAs judgedKind judgedLine cutOf withCut judgedFirst endedAt linesFrom judgedAfter judgedLines restOf checkOf
-uncheckeds = (refl, (refl, (refl, (refl, (refl, (refl, (refl, (refl, (refl, tt)))))))))
+uncheckeds = (refl, (refl, (refl, (refl, (refl, (refl, (refl, (refl, (refl, (refl, tt))))))))))
 
 pub worked : Right cases
 worked = (accounts, (amounts, (sums, (dates, (descriptions, (sequences, (orders, (files, (endings, (uncheckeds, tt))))))))))

@@ -1,10 +1,9 @@
 -- No state of a run is beyond 01's limits, and no step of a run is answered 24. Assumes nothing.
-use Prim.Native.Nat.{ℕ, _+_, _≤_}
+use Prim.Native.Nat.{ℕ, _+_}
 use mathlib.Core.Path.{_≡_, refl, sym, subst}
 use mathlib.Core.Logic.{_≢_}
 use mathlib.Core.List.{List, [], _∷_}
 use mathlib.Core.Bool.{Bool, true, false}
-use native.Mathlib.Omega.{arith}
 use lib.ListN.{take}
 use Rattle.machine.specs.Lists.{pick}
 use Rattle.format.specs.Answers.{isOfFile, beyondLimits, refusal, acceptance}

@@ -215,7 +215,7 @@ endingCases =
     ∷ firstLine [] 0 Unknown
     ∷ []
 
--- 02's [2]: 0000 to a seven-digit account, to one of nine digits and to one of ten; 1002 from one of nine, and before its beneficiary; 0005; eight digits, which 6 is for; and the example with 123456789 as the beneficiary of its line 6
+-- 02's [2]: 0000 to an account of seven digits, of nine and of ten; 1002 from one of seven, of nine, and of nine where the beneficiary is wrong too (14 before 7); 0005 to one of nine; 0003 to one of eight, and 0000 to one that fails the eleven check (6 before 14); and the example with 123456789 as the beneficiary of its line 6
 abbrev pub uncheckedCases : List Case
 uncheckedCases =
     line (after Payments 1) (batch 0 0 0) (paymentTo UncheckedCreditor 9999999) noFault
@@ -226,6 +226,7 @@ uncheckedCases =
     ∷ line (after Debits 1) (batch 0 0 0) (item UncheckedDebit 1 111111110 111111110) (faultAt 22 ordinaryAccount)
     ∷ line (after Payments 1) (batch 0 0 0) (paymentTo Creditor 123456789) noFault
     ∷ line (after Payments 1) (batch 0 0 0) (paymentTo UncheckedSalary 12345678) (faultAt 32 wrongAccount)
+    ∷ line (after Payments 1) (batch 0 0 0) (paymentTo UncheckedCreditor 123456788) (faultAt 32 wrongAccount)
     ∷ file (take 291 (example end1310) ++ (characters "0123456789" ++ drop 301 (example end1310))) (refusal ordinaryAccount 6 32)
     ∷ []
 

@@ -1,4 +1,4 @@
--- The answers of 01's table by name, and an answer with its line and column.
+-- The answers of 01 and 02 by name, and an answer with its line and column.
 use mathlib.Core.Bool.{Bool, _||_}
 use Prim.Native.Nat.{ℕ}
 use lib.Dec.{leb, eqb}

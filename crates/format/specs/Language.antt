@@ -135,7 +135,7 @@ fileRecs f = fileHeaderRec (f .created) (f .sender) (f .identification) (f .dupl
 abbrev pub In : ℕ → ℕ → ℕ → Type 0
 In low high n = (low ≤ n) × (n ≤ high)
 
--- of payer and beneficiary the one that is not the ordering account: 'Beneficiary in group 00, payer in group 10' (02)
+-- the one that need not be the ordering account: 'Beneficiary in group 00, payer in group 10' (02)
 abbrev pub otherParty : Group → ℕ → ℕ → ℕ
 otherParty Payments payer beneficiary = beneficiary
 otherParty Debits payer beneficiary = payer

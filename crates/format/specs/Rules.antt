@@ -98,11 +98,11 @@ isEleven n = eqb (weighted 10 1 n % 11) 0
 unfoldable pub isOrderingAccount : ℕ → Bool
 isOrderingAccount n = leb 100000000 n && isEleven n
 
--- '1 to 9,999,999 is a seven-digit account'
+-- '1 to 9,999,999 is a seven-digit account'; zero is refused before it
 abbrev pub isSevenDigits : ℕ → Bool
 isSevenDigits n = leb n 9999999
 
--- those, or seven digits, untested
+-- seven digits, 'untested', or nine or ten that pass
 unfoldable pub isAccount : ℕ → Bool
 isAccount n = isSevenDigits n || isOrderingAccount n
 

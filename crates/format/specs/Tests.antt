@@ -79,11 +79,15 @@ typeTests g t = test (isType t) wrongValue ∷ test (isTypeIn g t) differs ∷ [
 abbrev pub amountTests : ℕ → List Test
 amountTests = rangeTests 1 maxAmount
 
--- by whether it has to be the own account, and whether the type is unchecked: 14 comes 'after 7 on the same field' (02)
-abbrev pub partyTests : Bool → ℕ → Bool → ℕ → List Test
-partyTests mine own unchecked v =
-    rangeTest 1 maxAccount v ∷ test (isAccount v) wrongAccount ∷ test (isOwnIf mine own v) differs ∷ test (isSevenIf (not mine && unchecked) v) ordinaryAccount ∷ []
+-- of the own account 7; of the other party's, where the type is unchecked, 14: 'after 7 on the same field' (02)
+abbrev pub roleTests : Bool → ℕ → Bool → ℕ → List Test
+roleTests mine own unchecked v = test (isOwnIf mine own v) differs ∷ test (isSevenIf (not mine && unchecked) v) ordinaryAccount ∷ []
 
+-- by whether it has to be the own account, and whether the type is unchecked
+abbrev pub partyTests : Bool → ℕ → Bool → ℕ → List Test
+partyTests mine own unchecked v = rangeTest 1 maxAccount v ∷ test (isAccount v) wrongAccount ∷ roleTests mine own unchecked v
+
+-- the payer is the own account in payments, the beneficiary in debits
 abbrev pub payerTests : Group → ℕ → TypeRead → ℕ → List Test
 payerTests g own t = partyTests (sameGroup Payments g) own (isUncheckedType t)
 

@@ -47,17 +47,18 @@ fn is_transaction(k: Kind) -> bool
 }
 
 impl State {
-    // The state as it is, field by field: where a struct in it is copied whole, the compiler copies it for every line.
+    // The state as it is, made anew but for its batch. Where it is copied whole, the compiler copies parts of it for
+    // every line (DECISIONS, 73); so it does where `with_ending` has this for a second caller.
     fn rebuilt(self) -> State
         ensures { λ r. ⌜ r ≡ self ⌝ }
     {
-        let last = self.before;
-        let group = last.group;
-        let ending = last.ending;
+        let so_far = self.before;
+        let group = so_far.group;
+        let ending = so_far.ending;
         let before = Before {
-            sequence: last.sequence,
+            sequence: so_far.sequence,
             group,
-            known: last.known,
+            known: so_far.known,
             ending,
         };
         let batch = self.batch;

@@ -22,7 +22,7 @@ words =
     ∷ (afterTrailer, "there is something after the file trailer")
     ∷ (noRoom, "the room lent is too small")
     ∷ (noSuchItem, "there is no such batch or item")
-    ∷ (ordinaryAccount, "the types 0000, 0003 and 1002 are for accounts of seven digits or fewer only")
+    ∷ (ordinaryAccount, "the types 0000, 0003 and 1002 are only for accounts of seven digits or fewer")
     ∷ (beyondLimits, "the state handed in is none that a file leads to")
     ∷ (accepted, "accepted")
     ∷ []

@@ -28,7 +28,7 @@ fn put_words_from_11(page: &mut [u8], at: usize, number: u8) -> usize
         return put_text(
             page,
             at,
-            b"the types 0000, 0003 and 1002 are for accounts of seven digits or fewer only",
+            b"the types 0000, 0003 and 1002 are only for accounts of seven digits or fewer",
         );
     }
     if number == format::BEYOND_LIMITS {

@@ -103,6 +103,7 @@ pub record Cases : Type 0 where
   pub name-lacking : Answers (batchAt 4 stage.Item Due) BatchTrailer (letters 0) 52 (refusal 3 5 1)
   pub too-much : Answers (batchAt 3 stage.Ordered Unwanted) (salaryOf 45378021609) (letters 0) 52 (refusal 5 4 10)
   pub unchecked-to-seven : Answers (batchAt 3 stage.Ordered Unwanted) (uncheckedTo 9999999) (letters 0) 52 (acceptance 4)
+  -- 14 before 12
   pub unchecked-to-nine : Answers (batchAt 3 stage.Ordered Unwanted) (uncheckedTo 123456789) (letters 0) 51 (refusal 14 4 32)
   pub after-trailer : Answers (batchAt 6 stage.Done Unwanted) FileTrailer (letters 35) 0 (refusal 11 7 0)
   -- where the lines so far end with 10 alone: what the reader would give, 1 after 24 and 11, before all else

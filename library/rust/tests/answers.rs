@@ -63,6 +63,17 @@ fn a_second_line_with_the_other_end_is_broken() {
 }
 
 #[test]
+fn an_unchecked_salary_to_nine_digits_is_refused_at_its_account() {
+    let text = String::from_utf8(example()).unwrap();
+    let bytes = text.replace("1234567890000001234", "1234567890111111110").into_bytes();
+    for bytes in [alone(&bytes), bytes] {
+        assert_eq!(check(&bytes), answer(14, 6, 32));
+        assert_eq!(item(&bytes, 1, 1), Err(answer(14, 6, 32)));
+        assert_eq!(rewrite(&bytes, &mut []), Err(answer(14, 6, 32)));
+    }
+}
+
+#[test]
 fn nothing_ends_early_at_line_one() {
     assert_eq!(check(&[]), answer(10, 1, 0));
 }
