@@ -47,8 +47,8 @@ fn is_transaction(k: Kind) -> bool
 }
 
 impl State {
-    // The state as it is, made anew but for its batch. Where it is copied whole, the compiler copies parts of it for
-    // every line (DECISIONS, 73); so it does where `with_ending` has this for a second caller.
+    // The state as it is, made anew but for its batch. Where a refusal copies it whole, or makes it by `with_ending`,
+    // the compiler copies parts of it for every line (DECISIONS, 73).
     fn rebuilt(self) -> State
         ensures { λ r. ⌜ r ≡ self ⌝ }
     {
