@@ -106,8 +106,8 @@ fn answer_14() {
         5,
         "0100A000300000000255001234567890123456789",
         32,
-        "beneficiary: the types 0000, 0003 and 1002 are for accounts of seven digits or fewer \
-         only (answer 14)",
+        "beneficiary: the types 0000, 0003 and 1002 are only for accounts of seven \
+         digits or fewer (answer 14)",
     );
 }
 
