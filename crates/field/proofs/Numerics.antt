@@ -1,6 +1,6 @@
 -- The value of digits, and numeric fields by what the digits are. Assumes nothing.
-use Prim.Native.Nat.{ℕ, suc, _+_, _-_, _*_, _<_, _^_, _≤_}
-use mathlib.Core.Path.{_≡_, refl, sym, ap, _∙_}
+use Prim.Native.Nat.{ℕ, zero, suc, _+_, _-_, _*_, _<_, _^_, _≤_}
+use mathlib.Core.Path.{_≡_, refl, sym, ap, _∙_, subst}
 use mathlib.Core.List.{List, [], _∷_}
 use mathlib.Core.Bool.{Bool, true, false, not, _&&_}
 use native.Mathlib.Omega.{arith}
@@ -8,15 +8,17 @@ use native.Mathlib.Nat.{pow-le-pow-right}
 use native.Mathlib.Numerals.{add-one}
 use borrow.Author.Needs.{needs}
 use borrow.Author.Tests.{le-leb, lt-leb, leb-true, eq-eqb, ne-eqb}
-use lib.ListN.{length, getD, drop, drop-of-length-le}
+use lib.ListN.{length, getD, take, drop, drop-of-length-le, length-take}
 use lib.Seq.{drop-cons}
 use lib.Dec.{T, lit<, eqb, leb}
 use mir.Val.{Fits}
 use mir.Syntax.{w64}
 use Rattle.machine.specs.Lists.{pick, all, isDigit}
-use Rattle.machine.specs.Digits.{valueAfter, valueOf}
+use Rattle.machine.specs.Digits.{pow10, valueAfter, valueOf}
 use Rattle.machine.proofs.Base.{and-first, and-second}
+use Rattle.format.specs.Fields.{numeric}
 use Rattle.format.specs.Tests.{Test, test, rangeTests}
+use Rattle.format.proofs.Checks.{read-field}
 use Rattle.field.specs.declared.numbers.Digits.{Digits}
 use Rattle.field.specs.declared.numbers.Numeric.{Numeric}
 use Rattle.field.specs.Rows.{firstAnswer, fieldAnswer}
@@ -105,6 +107,25 @@ module _ (l : List ℕ) where
     pub digits-are : {v : ℕ} → all isDigit l ≡ true → v ≡ valueOf l → _≡_ {A = Digits} (record { ok = true; value = v }) (digitsOf l)
     unfolding digitsOf pick
     digits-are e k = rw (le-leb (length l) 18 h, e, k)
+
+-- they stand for a number below their power of ten
+pow10-wider : (w j : ℕ) → j ≤ w → pow10 j ≤ pow10 w
+pow10-wider zero zero h = omega arith
+pow10-wider zero (suc j) h = absurd (omega arith)
+pow10-wider (suc w) zero h = omega (arith, pow10-wider w zero (omega arith))
+pow10-wider (suc w) (suc j) h = omega (arith, pow10-wider w j (omega arith))
+
+pub value-below : (w : ℕ) (l : List ℕ) → length l ≤ w → all isDigit l ≡ true → valueOf l < pow10 w
+value-below w l h d = omega (arith, pow10-wider w (length l) h, read-field (numeric (length l)) l refl (subst T (sym d) tt) .0)
+
+pub digits-below : {d : Digits} (w : ℕ) (m : List ℕ) → d ≡ digitsOf (take w m) → d .value < pow10 w
+unfolding digitsOf pick
+digits-below w m e = rw e (by (leb (length (take w m)) 18) (all isDigit (take w m)) refl)
+  where
+    by : (q u : Bool) → all isDigit (take w m) ≡ u → pick (q && u) (record { ok = true; value = valueOf (take w m) }) noDigits .value < pow10 w
+    by true true h = value-below w (take w m) (rw length-take (omega arith)) h
+    by true false h = omega (arith, pow10-wider w 0 (omega arith))
+    by false u h = omega (arith, pow10-wider w 0 (omega arith))
 
 pub ruleset digits = (digits-long, digits-not, digits-are, by-call, needs)
 

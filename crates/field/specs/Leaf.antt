@@ -1,7 +1,7 @@
 -- Numeric fields of at most 18 digits: what is wrong, and the value where nothing is.
-use Prim.Native.Nat.{ℕ, suc, _+_, _-_, _*_, _≤_}
+use Prim.Native.Nat.{ℕ, _≤_}
 use mathlib.Core.Path.{_≡_}
-use mathlib.Core.List.{List, [], _∷_}
+use mathlib.Core.List.{List}
 use mathlib.Core.Bool.{true, false, _&&_}
 use lib.ListN.{length}
 use lib.Dec.{leb, eqb}
@@ -47,8 +47,3 @@ pub record TenDigits (l : List ℕ) (v : ℕ) : Type 0 where
   pub short : length l ≤ 10
   pub digits : all isDigit l ≡ true
   pub value : v ≡ valueOf l
-
--- each digit by its weight, from 1 for the last
-unfoldable pub weighedSum : List ℕ → ℕ
-weighedSum [] = 0
-weighedSum (c ∷ l) = suc (length l) * (c - 48) + weighedSum l

@@ -8,29 +8,31 @@ ghost use Rattle.machine.specs.Lists.{pick, all, isDigit};
 ghost use Rattle.format.specs.Rules.{maxAccount, isOrderingAccount, isSevenDigits, isAccount, isSevenIf};
 ghost use Rattle.format.specs.Answers.{differs, ordinaryAccount};
 ghost use Rattle.format.specs.Tests.{rangeTests, orderingTests, partyTests};
-ghost use Rattle.field.specs.Leaf.{TenDigits, weighedSum, wrongAs, numericOf};
+ghost use Rattle.field.specs.Leaf.{TenDigits, wrongAs, numericOf};
+ghost use Rattle.field.specs.Taught.{isElevenTaught};
 use crate::bytes::part;
 use crate::numbers::Numeric;
 use crate::numbers::digits_at;
-use crate::numbers::in_range;
+use crate::numbers::right;
 use crate::numbers::wide;
 use crate::numbers::wrong;
 
-// The digits with weights down to 1 for the last.
-fn weighed(s: &[u8]) -> u64
+// The eleven check as it is taught: 'add the digits one after the other, and add each running total into a second one'
+// (02). The second sum divides by 11.
+fn is_eleven(s: &[u8]) -> bool
     requires short { ⌜ length (now s) ≤ 10 ⌝ }
     requires digits { ⌜ all isDigit (now s) ≡ true ⌝ }
-    ensures { λ r. ⌜ r ≡ weighedSum (now (s .entry)) ⌝ }
+    ensures { λ r. ⌜ r ≡ isElevenTaught (now (s .entry)) ⌝ }
 {
-    let mut sum: u64 = 0;
-    let mut w: u64 = s.len() as u64;
+    let mut running: u64 = 0;
+    let mut second: u64 = 0;
     let mut i = 0;
     while i < s.len() {
-        sum = sum + w * wide(s[i] - 48);
-        w -= 1;
+        running = running + wide(s[i] - 48);
+        second = second + running;
         i += 1;
     }
-    sum
+    second % 11 == 0
 }
 
 // Nine or ten digits that pass the eleven check; v is what they stand for.
@@ -38,11 +40,7 @@ fn is_ordering_account(s: &[u8], v: u64) -> bool
     requires { ⌜ TenDigits (now s) v ⌝ }
     ensures { λ r. ⌜ r ≡ isOrderingAccount v ⌝ }
 {
-    if 100000000 <= v {
-        weighed(s) % 11 == 0
-    } else {
-        false
-    }
+    if 100000000 <= v { is_eleven(s) } else { false }
 }
 
 // One to seven digits; v is not zero.
@@ -57,17 +55,25 @@ fn is_account(s: &[u8], v: u64) -> bool
     requires { ⌜ TenDigits (now s) v ⌝ }
     ensures { λ r. ⌜ r ≡ isAccount v ⌝ }
 {
-    if is_seven_digits(v) {
+    if is_ordering_account(s, v) {
         return true;
     }
-    is_ordering_account(s, v)
+    is_seven_digits(v)
 }
 
-// Ten digits that are not all zero.
+// Ten digits that are not all zero; none are above the largest account.
 fn account_number(line: &[u8], at: usize) -> Numeric
     ensures { λ r. ⌜ r ≡ numericOf (rangeTests 1 maxAccount) (take 10 (drop at (now (line .entry)))) ⌝ }
 {
-    in_range(digits_at(line, at, 10), 1, format::MAX_ACCOUNT)
+    let d = digits_at(line, at, 10);
+    if d.ok {
+        if d.value == 0 {
+            return wrong(format::WRONG_VALUE);
+        }
+        right(d.value)
+    } else {
+        wrong(format::WRONG_FORM)
+    }
 }
 
 // The ordering account of a batch.

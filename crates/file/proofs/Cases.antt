@@ -5,6 +5,7 @@ use Rattle.machine.specs.Digits.{digitsOnto, decimal, valueAfter}
 use Rattle.format.specs.Rules.{daysIn, isDate, isDesiredDate, isTestCode, isIdentification, isOfDay, weighted, isEleven, isOrderingAccount, isAccount, isOwnIf, isSevenIf, isNameCodeIn, typeOf}
 use Rattle.format.specs.Cutting.{cutOf, linesFrom}
 use Rattle.field.specs.Rows.{fieldAnswer, firstOr}
+use Rattle.field.specs.Taught.{runningTotals, added, secondSum, isElevenTaught}
 use Rattle.record.specs.Kinds.{codeOf, debitCode, batchCode, fileCode}
 use Rattle.record.specs.Faults.{firstFault, faultOf}
 use Rattle.reading.specs.State.{isLimited, within}
@@ -16,8 +17,8 @@ use Rattle.file.specs.Cases.{Each, Right, accountCases, amountCases, sum
 
 -- a record's first fault
 accounts : Each accountCases
-unfolding pick same digitsOnto decimal valueAfter weighted isEleven isOrderingAccount isAccount isOwnIf isSevenIf typeOf fieldAnswer firstOr firstFault faultOf
-accounts = ((refl, refl), ((refl, refl), ((refl, refl), ((refl, refl), (refl, ((refl, refl), (refl, (refl, tt))))))))
+unfolding pick same digitsOnto decimal valueAfter weighted isEleven runningTotals added secondSum isElevenTaught isOrderingAccount isAccount isOwnIf isSevenIf typeOf fieldAnswer firstOr firstFault faultOf
+accounts = ((refl, refl, refl, refl), (refl, ((refl, refl, refl, refl), ((refl, refl, refl, refl), ((refl, refl, refl, refl), (refl, ((refl, refl, refl, refl), (refl, (refl, tt)))))))))
 
 amounts : Each amountCases
 unfolding pick same digitsOnto decimal valueAfter weighted isEleven isOrderingAccount isAccount isOwnIf isSevenIf typeOf fieldAnswer firstOr firstFault faultOf

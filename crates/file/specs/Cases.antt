@@ -1,4 +1,4 @@
--- 01's cases that are proved (1 to 11), a file without a batch, the example with each line end, and those of 02's requests [1] and [2], of the definitions that the contracts name, in one table.
+-- 01's cases that are proved (1 to 11; 1 and 2 of the eleven check as it is taught, too), a file without a batch, the example with each line end, and those of 02's requests [1] to [3], of the definitions that the contracts name, in one table.
 use mathlib.Core.Path.{_≡_}
 use mathlib.Core.Bool.{Bool, true, false}
 use mathlib.Core.List.{List, [], _∷_, _++_}
@@ -7,6 +7,7 @@ use Prim.Native.Nat.{ℕ, _+_, _*_}
 use Prim.Native.String.{String}
 use lib.ListN.{take, drop}
 use Rattle.machine.specs.Lists.{spaces}
+use Rattle.machine.specs.Digits.{decimal}
 use Rattle.machine.specs.Texts.{characters}
 use Rattle.descriptions.specs.Texts.{mergeOf}
 use Rattle.format.specs.Rules.{maxAmount, mostDescriptions, weighted, isEleven, isDate, typeText}
@@ -20,6 +21,7 @@ use Rattle.format.specs.declared.Group.{Group}
 use Rattle.format.specs.declared.Group.the-variants.{Payments, Debits}
 use Rattle.format.specs.declared.TransactionType.{TransactionType}
 use Rattle.format.specs.declared.TransactionType.the-variants.{UncheckedCreditor, UncheckedSalary, Creditor, Salary, Debit, UncheckedDebit}
+use Rattle.field.specs.Taught.{runningTotals, secondSum, isElevenTaught}
 use Rattle.record.specs.Faults.{nothingBefore, afterHeader, faultAt, noFault, faultOf}
 use Rattle.record.specs.declared.Before.{Before}
 use Rattle.record.specs.declared.Batch.{Batch}
@@ -33,8 +35,10 @@ use Rattle.reading.specs.declared.LineRead.{LineRead}
 use Rattle.file.specs.Example.{end1310, end10, example, exampleFile}
 
 pub data Case : Type 0 where
-  -- an account, its weighted sum, and whether it passes the eleven check
+  -- an account, its weighted sum, and whether it passes the eleven check; as it is taught, the same
   eleven : ℕ → ℕ → Bool → Case
+  -- digits, and their running totals
+  totals : String → List ℕ → Case
   -- a date, and whether it exists
   date : ℕ → Bool → Case
   -- a record in a batch so far, after what is before it, and its first fault
@@ -111,7 +115,12 @@ abbrev paidOne : ℕ → ℕ → LineRead
 paidOne payer beneficiary = stepAt (ordered payer) (lineBytes (cent payer beneficiary))
 
 abbrev Holds : Case → Type 0
-Holds (eleven account weight passes) = (weighted 10 1 account ≡ weight) × (isEleven account ≡ passes)
+Holds (eleven account sum passes) =
+    (weighted 10 1 account ≡ sum)
+    × (isEleven account ≡ passes)
+    × (secondSum (decimal 10 account) ≡ sum)
+    × (isElevenTaught (decimal 10 account) ≡ passes)
+Holds (totals digits running) = runningTotals 0 (characters digits) ≡ running
 Holds (date day exists) = isDate day ≡ exists
 Holds (line p b r fault) = faultOf p b (r .0) (lineText r) ≡ fault
 Holds (accountSum payer beneficiary sum accounts digits) =
@@ -137,6 +146,7 @@ Right (cs ∷ others) = Each cs × Right others
 abbrev pub accountCases : List Case
 accountCases =
     eleven 123456789 165 true
+    ∷ totals "0123456789" (0 ∷ 1 ∷ 3 ∷ 6 ∷ 10 ∷ 15 ∷ 21 ∷ 28 ∷ 36 ∷ 45 ∷ [])
     ∷ eleven 123456788 164 false
     ∷ eleven 1000000001 11 true
     ∷ eleven 1000000000 10 false

@@ -1,6 +1,6 @@
--- What accounts::account_number ensures, by the laws of Numerics.
+-- What accounts::account_number ensures, by the laws of Elevens.
 use borrow.Author.Needs.{needs}
-use Rattle.field.proofs.Numerics.{tested-of}
+use Rattle.field.proofs.Elevens.{tens}
 use Rattle.field.proofs.accounts.account_number.Statement.{statement}
 use Rattle.field.proofs.accounts.account_number.Tie as tie
 
@@ -9,6 +9,10 @@ account-number-spec =
     tie.close
     (tie.spec
     (λ c κs. search needs)  -- digits-at-requires
-    (λ c κs. search needs)  -- in-range-requires
-    (λ c. search tested-of)  -- returns
+    (λ c κs. search needs)  -- wrong-requires
+    (λ c. search tens depth 4)  -- returns
+    (λ c κs. search needs)  -- right-requires
+    (λ c κs. search needs)  -- wrong-requires-2
+    (λ c. search tens depth 4)  -- returns-2
+    (λ c. search tens depth 4)  -- returns-3
     )

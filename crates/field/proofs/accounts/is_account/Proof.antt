@@ -8,8 +8,8 @@ pub is-account-spec : {M : Type 1} → statement M
 is-account-spec =
     tie.close
     (tie.spec
-    (λ c κs. search needs)  -- is-seven-digits-requires
-    (λ c. search elevens depth 3 fits 10000)  -- returns
     (λ c κs. search needs)  -- is-ordering-account-requires
+    (λ c. search elevens depth 3 fits 10000)  -- returns
+    (λ c κs. search needs)  -- is-seven-digits-requires
     (λ c. search elevens depth 3 fits 10000)  -- returns-2
     )

@@ -8,7 +8,7 @@ pub is-ordering-account-spec : {M : Type 1} → statement M
 is-ordering-account-spec =
     tie.close
     (tie.spec
-    (λ c κs. search needs)  -- weighed-requires
+    (λ c κs. search needs)  -- is-eleven-requires
     (λ c. search elevens depth 3 fits 10000)  -- returns
     (λ c. search elevens depth 3 fits 10000)  -- returns-2
     )
