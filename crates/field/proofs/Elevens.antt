@@ -1,22 +1,20 @@
 -- The eleven check by digits, and the accounts of a transaction. Assumes nothing.
-use Prim.Native.Nat.{ℕ, zero, suc, _+_, _-_, _*_, _/_, _%_, _<_, _≤_}
-use mathlib.Core.Path.{_≡_, refl, sym, ap, ap₂, _∙_}
-use mathlib.Core.List.{List, [], _∷_}
+use Prim.Native.Nat.{ℕ, suc, _+_, _-_, _*_, _%_, _<_, _≤_}
+use mathlib.Core.Path.{_≡_, sym, ap, _∙_}
+use mathlib.Core.List.{List}
 use mathlib.Core.Bool.{Bool, true, false, or-true, or-false}
 use native.Mathlib.Omega.{arith}
-use native.Mathlib.Nat.{mul-le-mul}
 use native.Mathlib.Numerals.{add-one}
 use borrow.Author.Needs.{needs}
-use borrow.Author.Tests.{leb-true, le-leb, lt-leb}
-use lib.ListN.{length, getD, take, drop, drop-of-length-le, length-drop, length-take}
+use borrow.Author.Tests.{le-leb, lt-leb}
+use lib.ListN.{length, getD, take, drop, drop-of-length-le, length-take}
 use lib.Seq.{drop-cons}
-use lib.Dec.{leb, eqb}
+use lib.Dec.{eqb}
 use mir.Val.{Fits}
 use mir.Syntax.{w64}
 use Rattle.machine.specs.Lists.{pick, all, isDigit}
-use Rattle.machine.specs.Digits.{valueAfter, valueOf}
-use Rattle.machine.proofs.Base.{and-first, and-second}
-use Rattle.format.specs.Rules.{maxAccount, isEleven, isOrderingAccount, isSevenDigits, isAccount, weighted, isOwnIf, isSevenIf}
+use Rattle.machine.specs.Digits.{valueOf}
+use Rattle.format.specs.Rules.{maxAccount, isEleven, isOrderingAccount, isSevenDigits, isAccount, isOwnIf, isSevenIf}
 use Rattle.format.specs.Answers.{differs, ordinaryAccount}
 use Rattle.format.specs.Tests.{rangeTests, roleTests}
 use Rattle.field.specs.declared.numbers.Digits.{Digits}
@@ -25,20 +23,20 @@ use Rattle.field.specs.Leaf.{TenDigits, wrongAs, digitsOf, numericOf}
 use Rattle.field.specs.Taught.{runningTotals, added, secondSum, isElevenTaught}
 use Rattle.field.proofs.Numerics.{firstOf, is-digits, next-low, next-high, next-left, is-right, digits-below, tested-of, range-not, range-low, range-in}
 use Rattle.field.proofs.Rows.{of-value}
-use Rattle.field.proofs.Taught.{same-in}
+use Rattle.field.proofs.Taught.{same-of-ten}
 
 -- ## The two sums, digit by digit
 
 pub record Adding (s : List ℕ) (running second i : ℕ) : Type 0 where
   pub within : i ≤ length s
   pub digits : all isDigit (drop i s) ≡ true
-  pub low : running ≤ 9 * i
-  pub small : second ≤ 90 * i
+  pub running-most : running ≤ 9 * i
+  pub second-most : second ≤ 90 * i
   pub left : second + added (runningTotals running (drop i s)) ≡ secondSum s
 
 pub adding-none : (s : List ℕ) → all isDigit s ≡ true → Adding s 0 0 0
 unfolding secondSum
-adding-none s h = record { within = omega arith; digits = h; low = omega arith; small = omega arith; left = omega arith }
+adding-none s h = record { within = omega arith; digits = h; running-most = omega arith; second-most = omega arith; left = omega arith }
 
 module _ {s : List ℕ} {running second i : ℕ} (r : Adding s running second i) where
   pub adding-all : length s ≤ i → eqb (second % 11) 0 ≡ isElevenTaught s
@@ -61,8 +59,8 @@ module _ {s : List ℕ} {running second i : ℕ} (r : Adding s running second i)
           record {
             within = omega arith;
             digits = next-left s i (r .digits) h;
-            low = omega (arith, r, high);
-            small = omega (arith, r, high);
+            running-most = omega (arith, r, high);
+            second-most = omega (arith, r, high);
             left = rw add-one (omega (arith, r .left, q));
           }
 
@@ -77,8 +75,8 @@ pub ruleset addings = (adding-none, adding-all, adding-more, adding-low, running
 -- ## It is the check of the number
 
 pub ordering-yes : {l : List ℕ} {v : ℕ} {passes : Bool} → TenDigits l v → passes ≡ isElevenTaught l → 100000000 ≤ v → passes ≡ isOrderingAccount v
-unfolding isElevenTaught isEleven isOrderingAccount
-ordering-yes {l} {v} t e h = e ∙ ap (λ n. eqb (n % 11) 0) (same-in 10 l (t .short) (t .digits) ∙ ap (weighted 10 1) (sym (t .value))) ∙ sym (rw (le-leb 100000000 v h))
+unfolding isOrderingAccount
+ordering-yes {l} {v} t e h = e ∙ same-of-ten l (t .short) (t .digits) ∙ ap isEleven (sym (t .value)) ∙ sym (rw (le-leb 100000000 v h))
 
 pub ordering-no : (v : ℕ) → v < 100000000 → false ≡ isOrderingAccount v
 unfolding isOrderingAccount

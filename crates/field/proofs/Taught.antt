@@ -46,7 +46,7 @@ pub same-answer : SameAnswer
 unfolding isElevenTaught isEleven
 same-answer n = ap (λ x. eqb (x % 11) 0) (same-as-weighted 10 n)
 
--- ## Digits in a field of more: the weights before them are of zeros
+-- ## At most ten digits: the weights before them are of zeros
 
 weighted-zero : (k w : ℕ) → weighted k w 0 ≡ 0
 unfolding weighted
@@ -60,7 +60,9 @@ weighted-more (suc j) m w n h =
     let e : suc j + m ≡ suc (j + m) = omega arith in
     ap (λ k. weighted k w n) e ∙ ap (λ x. w * (n % 10) + x) (weighted-more j m (suc w) (n / 10) (omega arith))
 
-pub same-in : (w : ℕ) (l : List ℕ) → length l ≤ w → all isDigit l ≡ true → secondSum l ≡ weighted w 1 (valueOf l)
-same-in w l h d =
-    let n : length l + (w - length l) ≡ w = omega arith in
-    same-sum l d ∙ sym (weighted-more (length l) (w - length l) 1 (valueOf l) (value-below (length l) l (omega arith) d)) ∙ ap (λ j. weighted j 1 (valueOf l)) n
+pub same-of-ten : (l : List ℕ) → length l ≤ 10 → all isDigit l ≡ true → isElevenTaught l ≡ isEleven (valueOf l)
+unfolding isElevenTaught isEleven
+same-of-ten l h d =
+    let n : length l + (10 - length l) ≡ 10 = omega arith in
+    let m = weighted-more (length l) (10 - length l) 1 (valueOf l) (value-below (length l) l (omega arith) d) in
+    ap (λ x. eqb (x % 11) 0) (same-sum l d ∙ sym m ∙ ap (λ j. weighted j 1 (valueOf l)) n)

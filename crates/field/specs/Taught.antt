@@ -1,4 +1,4 @@
--- The eleven check as it is taught (02, [3]): 'add the digits one after the other, and add each running total into a second one'; and that it answers as 01's weights do. Digits are characters here.
+-- The eleven check as it is taught (02, [3]): 'add the digits one after the other, and add each running total into a second one'; and that it answers as 01's weights do. A digit is its character here, 48 to 57.
 use Prim.Native.Nat.{ℕ, _+_, _-_, _%_}
 use mathlib.Core.Path.{_≡_}
 use mathlib.Core.List.{List, [], _∷_}

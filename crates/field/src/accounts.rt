@@ -18,7 +18,7 @@ use crate::numbers::wide;
 use crate::numbers::wrong;
 
 // The eleven check as it is taught: 'add the digits one after the other, and add each running total into a second one'
-// (02). The second sum divides by 11.
+// (02). They pass where that divides by 11.
 fn is_eleven(s: &[u8]) -> bool
     requires short { ⌜ length (now s) ≤ 10 ⌝ }
     requires digits { ⌜ all isDigit (now s) ≡ true ⌝ }
@@ -61,7 +61,7 @@ fn is_account(s: &[u8], v: u64) -> bool
     is_seven_digits(v)
 }
 
-// Ten digits that are not all zero; none are above the largest account.
+// Ten digits that are not all zero. None are above the largest account, so that is not asked.
 fn account_number(line: &[u8], at: usize) -> Numeric
     ensures { λ r. ⌜ r ≡ numericOf (rangeTests 1 maxAccount) (take 10 (drop at (now (line .entry)))) ⌝ }
 {

@@ -1,4 +1,4 @@
--- 01's cases that are proved (1 to 11; 1 and 2 of the eleven check as it is taught, too), a file without a batch, the example with each line end, and those of 02's requests [1] to [3], of the definitions that the contracts name, in one table.
+-- 01's cases that are proved (1 to 11), a file without a batch, the example with each line end, and those of 02's requests [1] to [3], of the definitions that the contracts name, in one table.
 use mathlib.Core.Path.{_≡_}
 use mathlib.Core.Bool.{Bool, true, false}
 use mathlib.Core.List.{List, [], _∷_, _++_}
@@ -35,10 +35,10 @@ use Rattle.reading.specs.declared.LineRead.{LineRead}
 use Rattle.file.specs.Example.{end1310, end10, example, exampleFile}
 
 pub data Case : Type 0 where
-  -- an account, its weighted sum, and whether it passes the eleven check; as it is taught, the same
+  -- an account, its weighted sum, which is its second sum too, and whether it passes the eleven check, by both forms
   eleven : ℕ → ℕ → Bool → Case
   -- digits, and their running totals
-  totals : String → List ℕ → Case
+  running : String → List ℕ → Case
   -- a date, and whether it exists
   date : ℕ → Bool → Case
   -- a record in a batch so far, after what is before it, and its first fault
@@ -120,7 +120,7 @@ Holds (eleven account sum passes) =
     × (isEleven account ≡ passes)
     × (secondSum (decimal 10 account) ≡ sum)
     × (isElevenTaught (decimal 10 account) ≡ passes)
-Holds (totals digits running) = runningTotals 0 (characters digits) ≡ running
+Holds (running digits totals) = runningTotals 0 (characters digits) ≡ totals
 Holds (date day exists) = isDate day ≡ exists
 Holds (line p b r fault) = faultOf p b (r .0) (lineText r) ≡ fault
 Holds (accountSum payer beneficiary sum accounts digits) =
@@ -142,11 +142,11 @@ abbrev pub Right : List (List Case) → Type 0
 Right [] = Unit {0}
 Right (cs ∷ others) = Each cs × Right others
 
--- 1, 2, 3
+-- 1, with its running totals (02's [3]), 2, 3
 abbrev pub accountCases : List Case
 accountCases =
     eleven 123456789 165 true
-    ∷ totals "0123456789" (0 ∷ 1 ∷ 3 ∷ 6 ∷ 10 ∷ 15 ∷ 21 ∷ 28 ∷ 36 ∷ 45 ∷ [])
+    ∷ running "0123456789" (0 ∷ 1 ∷ 3 ∷ 6 ∷ 10 ∷ 15 ∷ 21 ∷ 28 ∷ 36 ∷ 45 ∷ [])
     ∷ eleven 123456788 164 false
     ∷ eleven 1000000001 11 true
     ∷ eleven 1000000000 10 false
