@@ -108,13 +108,13 @@ module _ (l : List ℕ) where
     unfolding digitsOf pick
     digits-are e k = rw (le-leb (length l) 18 h, e, k)
 
--- they stand for a number below their power of ten
 pow10-wider : (w j : ℕ) → j ≤ w → pow10 j ≤ pow10 w
 pow10-wider zero zero h = omega arith
 pow10-wider zero (suc j) h = absurd (omega arith)
 pow10-wider (suc w) zero h = omega (arith, pow10-wider w zero (omega arith))
 pow10-wider (suc w) (suc j) h = omega (arith, pow10-wider w j (omega arith))
 
+-- digits that fit a width stand for a number below its power of ten
 pub value-below : (w : ℕ) (l : List ℕ) → length l ≤ w → all isDigit l ≡ true → valueOf l < pow10 w
 value-below w l h d = omega (arith, pow10-wider w (length l) h, read-field (numeric (length l)) l refl (subst T (sym d) tt) .0)
 
