@@ -1,16 +1,15 @@
 -- The value of digits, and numeric fields by what the digits are. Assumes nothing.
-use Prim.Native.Nat.{ℕ, zero, suc, _+_, _-_, _*_, _<_, _^_, _≤_}
+use Prim.Native.Nat.{ℕ, zero, suc, _+_, _-_, _*_, _<_, _≤_}
 use mathlib.Core.Path.{_≡_, refl, sym, ap, _∙_, subst}
 use mathlib.Core.List.{List, [], _∷_}
 use mathlib.Core.Bool.{Bool, true, false, not, _&&_}
 use native.Mathlib.Omega.{arith}
-use native.Mathlib.Nat.{pow-le-pow-right}
 use native.Mathlib.Numerals.{add-one}
 use borrow.Author.Needs.{needs}
 use borrow.Author.Tests.{le-leb, lt-leb, leb-true, eq-eqb, ne-eqb}
 use lib.ListN.{length, getD, take, drop, drop-of-length-le, length-take}
 use lib.Seq.{drop-cons}
-use lib.Dec.{T, lit<, eqb, leb}
+use lib.Dec.{T, eqb, leb}
 use mir.Val.{Fits}
 use mir.Syntax.{w64}
 use Rattle.machine.specs.Lists.{pick, all, isDigit}
@@ -45,14 +44,20 @@ module _ (s : List ℕ) (i : ℕ) (left : all isDigit (drop i s) ≡ true) (h : 
 
 -- ## The value of digits
 
+pow10-wider : (w j : ℕ) → j ≤ w → pow10 j ≤ pow10 w
+pow10-wider zero zero h = omega arith
+pow10-wider zero (suc j) h = absurd (omega arith)
+pow10-wider (suc w) zero h = omega (arith, pow10-wider w zero (omega arith))
+pow10-wider (suc w) (suc j) h = omega (arith, pow10-wider w j (omega arith))
+
 pub record Reading (s : List ℕ) (v i : ℕ) : Type 0 where
   pub within : i ≤ length s
   pub digits : all isDigit (drop i s) ≡ true
-  pub small : v < 10 ^ i
+  pub small : v < pow10 i
   pub value : valueAfter v (drop i s) ≡ valueOf s
 
 pub reading-none : (s : List ℕ) → all isDigit s ≡ true → Reading s 0 0
-reading-none s h = record { within = omega arith; digits = h; small = lit< tt; value = refl }
+reading-none s h = record { within = omega arith; digits = h; small = omega arith; value = refl }
 
 module _ {s : List ℕ} {v i : ℕ} (r : Reading s v i) where
   pub reading-all : length s ≤ i → v ≡ valueOf s
@@ -78,11 +83,8 @@ module _ {s : List ℕ} {v i : ℕ} (r : Reading s v i) where
 
     -- with at most 18 digits the next value fits a u64
     module _ (k : length s ≤ 18) where
-      room : v < 10 ^ 17
-      room =
-          let q : i ≤ 17 = omega arith in
-          let p = pow-le-pow-right {n = 10} (lit< tt) q in
-          omega (arith, r, p)
+      room : v < pow10 17
+      room = omega (arith, r, pow10-wider 17 i (omega arith))
 
       pub times-fits : Fits w64 (v * 10)
       times-fits = omega (arith, room)
@@ -107,12 +109,6 @@ module _ (l : List ℕ) where
     pub digits-are : {v : ℕ} → all isDigit l ≡ true → v ≡ valueOf l → _≡_ {A = Digits} (record { ok = true; value = v }) (digitsOf l)
     unfolding digitsOf pick
     digits-are e k = rw (le-leb (length l) 18 h, e, k)
-
-pow10-wider : (w j : ℕ) → j ≤ w → pow10 j ≤ pow10 w
-pow10-wider zero zero h = omega arith
-pow10-wider zero (suc j) h = absurd (omega arith)
-pow10-wider (suc w) zero h = omega (arith, pow10-wider w zero (omega arith))
-pow10-wider (suc w) (suc j) h = omega (arith, pow10-wider w j (omega arith))
 
 -- digits that fit a width stand for a number below its power of ten
 pub value-below : (w : ℕ) (l : List ℕ) → length l ≤ w → all isDigit l ≡ true → valueOf l < pow10 w
