@@ -1,6 +1,6 @@
 // An input checked line by line, for the programs: files of any length in constant memory.
 ghost use Rattle.checking.specs.Answered.{Answered};
-ghost use Rattle.file.specs.Reached.{Reached};
+ghost use Rattle.file.specs.Reached.{InRun};
 use format::Answer;
 use reading::State;
 use streams::Lines;
@@ -14,7 +14,7 @@ pub struct Checked {
 
 // The next line of the buffer, or the end where none is left.
 fn answered(state: State, lines: Lines, buffer: &[u8]) -> Checked
-    requires { ⌜ Reached state ⌝ }
+    requires { ⌜ InRun state ⌝ }
     ensures { λ r. ⌜ Answered r (now (buffer .entry)) ⌝ }
 {
     let r = state.line(lines.line(buffer));
@@ -30,7 +30,7 @@ fn answered(state: State, lines: Lines, buffer: &[u8]) -> Checked
 impl Checked {
     // The line after one that was accepted.
     fn next(self, lines: Lines, buffer: &[u8]) -> Checked
-        requires { ⌜ Reached (self .state) ⌝ }
+        requires { ⌜ InRun (self .state) ⌝ }
         ensures { λ r. ⌜ Answered r (now (buffer .entry)) ⌝ }
     {
         let state = self.state;

@@ -1,12 +1,15 @@
 // Says of each file that its arguments name, or of standard input, whether it is accepted, and if not what to tell the
 // sender: the place, the field, what is wrong, and the line as it stands with a mark under the column. For the
 // operator on the telephone.
+use checking::Checked;
 use field::bytes::part;
 use format::Answer;
 use format::Code;
 use libc::STDOUT_FILENO;
 use page::put_digits;
+use page::put_euros;
 use page::put_text;
+use record::Totals;
 use record::kinds::code_of;
 use streams::Lines;
 use telling::put_field;
@@ -148,12 +151,12 @@ fn shown(number: u8, line: &[u8]) -> LineShown {
 
 fn put_where(page: &mut [u8], at: usize, line: u64, column: u8, code: Code) -> usize {
     let a = put_text(page, at, b": line ");
-    let b = put_digits(page, a, line);
+    let b = put_digits(page, a, line, 1);
     if column == 0 {
         return b;
     }
     let c = put_text(page, b, b", column ");
-    let d = put_digits(page, c, column as u64);
+    let d = put_digits(page, c, column as u64, 1);
     let e = put_text(page, d, b", ");
     put_field(page, e, code, column)
 }
@@ -182,14 +185,14 @@ fn put_how(page: &mut [u8], at: usize, number: u8, m: Extent) -> usize {
     }
     if !m.ended {
         let a = put_text(page, at, b": the file ends after byte ");
-        let b = put_digits(page, a, n);
+        let b = put_digits(page, a, n, 1);
         return put_text(page, b, b" of it");
     }
     if n == 50 {
         return put_other_end(page, at, m.last);
     }
     let a = put_text(page, at, b": its length is ");
-    let b = put_digits(page, a, n);
+    let b = put_digits(page, a, n, 1);
     put_text(page, b, b", not 50")
 }
 
@@ -198,7 +201,7 @@ fn put_what(page: &mut [u8], at: usize, number: u8, m: Extent) -> usize {
     let b = put_words(page, a, number);
     let c = put_how(page, b, number, m);
     let d = put_text(page, c, b" (answer ");
-    let e = put_digits(page, d, number as u64);
+    let e = put_digits(page, d, number as u64, 1);
     put_text(page, e, b")\n")
 }
 
@@ -226,18 +229,33 @@ fn put_refusal(page: &mut [u8], at: usize, answer: Answer, line: LineShown, m: E
     put_line_as_is(page, b, line, answer.column)
 }
 
-fn put_acceptance(page: &mut [u8], at: usize, lines: u64) -> usize {
+fn put_items(page: &mut [u8], at: usize, items: u64) -> usize {
+    let a = put_digits(page, at, items, 1);
+    if items == 1 {
+        return put_text(page, a, b" item");
+    }
+    put_text(page, a, b" items")
+}
+
+fn put_acceptance(page: &mut [u8], at: usize, lines: u64, totals: Totals) -> usize {
     let a = put_text(page, at, b": accepted, ");
-    let b = put_digits(page, a, lines);
-    put_text(page, b, b" lines\n")
+    let b = put_digits(page, a, lines, 1);
+    let c = put_text(page, b, b" lines, ");
+    let d = put_items(page, c, totals.items);
+    let e = put_text(page, d, b", ");
+    let f = put_euros(page, e, totals.amount);
+    put_text(page, f, b"\n")
 }
 
 // What is printed of a file, and whether that was done.
-fn is_said(answer: Answer, line: LineShown, m: Extent, name: &[u8]) -> bool {
+fn is_said(checked: Checked, line: LineShown, m: Extent, name: &[u8]) -> bool {
+    let answer = checked.answer;
+    let state = checked.state;
+    let totals = state.totals;
     let mut page = [0u8; 8192];
     let a = put_name(&mut page, 0, name);
     if answer.number == 0 {
-        let b = put_acceptance(&mut page, a, answer.line);
+        let b = put_acceptance(&mut page, a, answer.line, totals);
         return streams::told(io::write_all(STDOUT_FILENO, part(&page, 0, b)));
     }
     let b = put_refusal(&mut page, a, answer, line, m);
@@ -257,7 +275,7 @@ fn check_file(fd: i32, name: &[u8]) -> u8 {
     if lines.failed | m.failed {
         return streams::status_of(answer.number, false);
     }
-    streams::status_of(answer.number, is_said(answer, line, m, name))
+    streams::status_of(answer.number, is_said(checked, line, m, name))
 }
 
 // The file of argument i, or standard input.

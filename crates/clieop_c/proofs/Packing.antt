@@ -12,9 +12,10 @@ use Rattle.format.specs.Answers.{refusal, acceptance}
 use Rattle.format.specs.declared.Answer.{Answer}
 use Rattle.reading.specs.State.{startState, within}
 use Rattle.reading.specs.Step.{isDone, refusalBy, endedAt}
-use Rattle.reading.specs.Check.{judgedLines, checkOf, restOf}
+use Rattle.reading.specs.Check.{judgedLines, checkOf, readOf, restOf}
 use Rattle.reading.specs.declared.State.{State}
 use Rattle.reading.specs.declared.Judged.{Judged}
+use Rattle.reading.specs.declared.FileRead.{FileRead}
 use Rattle.reading.proofs.Limits.{within-line}
 use Rattle.reading.proofs.Answers.{rest-named}
 use Rattle.file.specs.Meaning.{Means}
@@ -62,18 +63,18 @@ check-line file = judged-line file (judgedLines startState file) (eqb (judgedLin
 
 -- ## The answer of a file
 
-module _ {a : Answer} (file : List ℕ) (e : a ≡ checkOf file) where
-  pub line-packs : a .line ≤ 6999369996
-  line-packs = subst (λ (y : Answer). y .line ≤ 6999369996) (sym e) (check-line file)
+module _ {x : FileRead} (file : List ℕ) (e : x ≡ readOf file) where
+  pub line-packs : x .answer .line ≤ 6999369996
+  line-packs = subst (λ (y : FileRead). y .answer .line ≤ 6999369996) (sym e) (check-line file)
 
-  pub check-number : {r : ℕ} → r ≡ packed a → r ≡ packed (checkOf file)
-  check-number n = n ∙ ap packed e
+  pub check-number : {r : ℕ} → r ≡ packed (x .answer) → r ≡ packed (checkOf file)
+  check-number n = n ∙ ap (λ (y : FileRead). packed (y .answer)) e
 
-  module _ (r : ℕ) (u : unpacked r ≡ a) where
+  module _ (r : ℕ) (u : unpacked r ≡ x .answer) where
     pub check-answer : unpacked r ≡ checkOf file
-    check-answer = u ∙ e
+    check-answer = u ∙ ap (λ (y : FileRead). y .answer) e
 
-    pub check-means : Means file a → Means file (unpacked r)
+    pub check-means : Means file (x .answer) → Means file (unpacked r)
     check-means m = subst (Means file) (sym u) m
 
 pub ruleset checks = (line-packs, check-number, check-answer, check-means, needs)

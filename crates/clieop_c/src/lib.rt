@@ -45,7 +45,8 @@ pub extern "C" fn clieop_check(file: &[u8]) -> u64
     ensures answer { λ r. ⌜ unpacked r ≡ checkOf (now (file .entry)) ⌝ }
     ensures meaning { λ r. ⌜ Means (now (file .entry)) (unpacked r) ⌝ }
 {
-    let a = file::check(file);
+    let read = file::check(file);
+    let a = read.answer;
     pack(a)
 }
 

@@ -7,8 +7,12 @@ pub mod Groups
 pub mod Reach
 pub mod Reached
 pub mod Run
+pub mod Passing
 pub mod Counted
 pub mod Meaning
+pub mod Totals
+pub mod Along
+pub mod Totalled
 pub mod Paying
 pub mod Longest
 pub mod Example

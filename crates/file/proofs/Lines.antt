@@ -34,6 +34,7 @@ use Rattle.record.specs.Faults.{knownGroup, fieldsOf, testsFor, maximaFor, faul
 use Rattle.record.specs.Read.{transactionFor}
 use Rattle.record.specs.declared.Before.{Before}
 use Rattle.record.specs.declared.Batch.{Batch}
+use Rattle.record.specs.declared.Totals.{Totals}
 use Rattle.record.specs.declared.Fault.{Fault}
 use Rattle.record.proofs.Faulting.{fault-numbers}
 use Rattle.record.proofs.Coding.{code-is, no-code}
@@ -98,8 +99,8 @@ begins-item g p b x = ap₂ at (opens-item g (isUncheckedType (typeOf (type x)))
 abbrev inGroup : Group → Before → Before
 inGroup g a = record { sequence = a .sequence; group = g; known = a .known; ending = a .ending }
 
-abbrev stateAt : ℕ → Stage → Before → Batch → Name → Bool → ℕ → State
-stateAt n p a b m r d = record { line = n; stage = p; before = a; batch = b; item = record { name = m; reference = r; descriptions = d } }
+abbrev stateAt : ℕ → Totals → Stage → Before → Batch → Name → Bool → ℕ → State
+stateAt n t p a b m r d = record { line = n; stage = p; before = a; batch = b; totals = t; item = record { name = m; reference = r; descriptions = d } }
 
 abbrev Edge : (s : State) {p : Phase} {k : Kind} → Place p k → Fields k → Type 0
 Edge s {k = k} pl x =
@@ -107,8 +108,8 @@ Edge s {k = k} pl x =
     × (maxima k (contextOf (s .before) (s .batch)) x ≡ maximaFor (s .batch) k x)
     × (advance pl (contextOf (s .before) (s .batch)) x ≡ placeOf (nextFor s k x))
 
-module _ (n : ℕ) (a : Before) (b : Batch) (r : Bool) (d : ℕ) where
-  edge : (p : Stage) (g : Group) (m : Name) (f : ℕ) (q : Room) → 4 - b .fixed ≡ f → roomOf r d ≡ q → {k : Kind} (pl : Place (phaseIn p (knownGroup (inGroup g a)) g f m q) k) (x : Fields k) → Edge (stateAt n p (inGroup g a) b m r d) pl x
+module _ (n : ℕ) (t : Totals) (a : Before) (b : Batch) (r : Bool) (d : ℕ) where
+  edge : (p : Stage) (g : Group) (m : Name) (f : ℕ) (q : Room) → 4 - b .fixed ≡ f → roomOf r d ≡ q → {k : Kind} (pl : Place (phaseIn p (knownGroup (inGroup g a)) g f m q) k) (x : Fields k) → Edge (stateAt n t p (inGroup g a) b m r d) pl x
   unfolding pick
   edge Start g m f q e h file-header x = (refl, refl, refl)
   edge Headed g m f q e h first-batch-b x = (refl, refl, refl)
@@ -153,7 +154,7 @@ module _ (n : ℕ) (a : Before) (b : Batch) (r : Bool) (d : ℕ) where
   edge Done g m f q e h pl x = absurd (not-ended pl)
 
 edge-of : (s : State) {k : Kind} (pl : Place (phaseOf s) k) (x : Fields k) → Edge s pl x
-edge-of s pl x = edge (s .line) (s .before) (s .batch) (s .item .reference) (s .item .descriptions) (s .stage) (s .before .group) (s .item .name) (4 - s .batch .fixed) (roomOf (s .item .reference) (s .item .descriptions)) refl refl pl x
+edge-of s pl x = edge (s .line) (s .totals) (s .before) (s .batch) (s .item .reference) (s .item .descriptions) (s .stage) (s .before .group) (s .item .name) (4 - s .batch .fixed) (roomOf (s .item .reference) (s .item .descriptions)) refl refl pl x
 
 -- ## What is judged of a line, and what the reader does with it
 

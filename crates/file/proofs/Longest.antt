@@ -1,14 +1,14 @@
--- 01's limit of lines is exact: a file with 9,999 batches of 100,000 items of seven lines is accepted. It is counted by lemmas, never computed. Assumes nothing.
+-- 01's limit of lines and 02's of totals are exact: a file with 9,999 batches of 100,000 items of seven lines, each with the largest total, is accepted. It is counted by lemmas, never computed. Assumes nothing.
 use Prim.Native.Nat.{ℕ, zero, suc, _+_, _*_, _≤_}
-use mathlib.Core.Path.{_≡_, refl, ap, subst}
+use mathlib.Core.Path.{_≡_, refl, ap, _∙_}
 use mathlib.Core.List.{List, [], _∷_}
 use mathlib.Core.Option.{none, some}
 use native.Mathlib.Omega.{arith}
-use lib.ListN.{length, replicate, length-replicate}
+use lib.ListN.{length, replicate}
 use Rattle.machine.specs.Lists.{pick, same}
 use Rattle.machine.specs.Digits.{valueAfter}
-use Rattle.format.specs.Rules.{isTestCode, daysIn, isDate, isDesiredDate, isIdentification, isOfDay, weighted, isEleven, isOrderingAccount, isAccount, isOwnIf, isSevenIf, isNameCodeIn, typeOf, typeText}
-use Rattle.format.specs.Language.{Item, Batch, File, totalOf, accountsOf, tenDigits, Rec, itemsRecs, batchTrailerRec, batchesRecs, fileTrailerRecs, fileRecs, ItemOk, ItemsOk, Follows, BatchOk, BatchesOk, Valid, Ending, endBytes, lineOf, linesOf, Reads}
+use Rattle.format.specs.Rules.{maxAmount, isTestCode, daysIn, isDate, isDesiredDate, isIdentification, isOfDay, weighted, isEleven, isOrderingAccount, isAccount, isOwnIf, isSevenIf, isNameCodeIn, typeOf, typeText}
+use Rattle.format.specs.Language.{Item, Batch, File, totalOf, accountsOf, tenDigits, Rec, itemsRecs, batchTrailerRec, batchesRecs, fileTrailerRecs, fileRecs, In, ItemOk, ItemsOk, Follows, BatchOk, BatchesOk, Valid, Ending, endBytes, lineOf, linesOf, Reads}
 use Rattle.format.specs.Cutting.{linesFrom, linesIn}
 use Rattle.format.specs.Answers.{acceptance}
 use Rattle.format.specs.declared.Group.the-variants.{Payments}
@@ -18,10 +18,12 @@ use Rattle.format.proofs.Cutting.{lines-line, count-lines}
 use Rattle.format.proofs.Link.{is-line}
 use Rattle.format.proofs.Complete.{complete}
 use Rattle.reading.specs.State.{maxLine}
-use Rattle.reading.specs.Check.{checkOf}
-use Rattle.file.specs.Longest.{Longest}
+use Rattle.reading.specs.Check.{checkOf, totalsOf, readOf}
+use Rattle.file.specs.Totals.{itemsIn, amountIn}
+use Rattle.file.specs.Longest.{Longest, largestTotals}
 use Rattle.file.proofs.Paying.{payment-ok}
 use Rattle.file.proofs.Meaning.{language, lines-read, none-longer}
+use Rattle.file.proofs.Totalled.{totalled, none-larger}
 
 -- ## A line a record
 
@@ -37,11 +39,11 @@ abbrev letters : ℕ → List ℕ
 letters n = replicate n 65
 
 -- a transaction, its reference, three descriptions, a name and a city
-item : Item
-item =
+item : ℕ → Item
+item amount =
     record {
       type = typeText UncheckedSalary;
-      amount = 1;
+      amount = amount;
       payer = 123456789;
       beneficiary = 1;
       reference = some (letters 16);
@@ -49,32 +51,66 @@ item =
       name = some (record { text = letters 35; city = some (letters 45) });
     }
 
-item-ok : ItemOk Payments 123456789 item
+item-ok : (amount : ℕ) → In 1 maxAmount amount → ItemOk Payments 123456789 (item amount)
 unfolding item same pick weighted isEleven isOrderingAccount isAccount isOwnIf isSevenIf typeOf
-item-ok =
+item-ok amount h =
     record {
-      transaction-ok = payment-ok (refl, tt) tt (omega arith) (omega arith) tt tt;
+      transaction-ok = payment-ok (refl, tt) tt h (omega arith) tt tt;
       reference-ok = (refl, tt);
       descriptions-ok = ((refl, tt), ((refl, tt), ((refl, tt), tt)));
       room = omega arith;
       name-ok = ((refl, tt), (refl, tt));
     }
 
-items-ok : (n : ℕ) → ItemsOk Payments 123456789 (replicate n item)
-items-ok zero = tt
-items-ok (suc n) = (item-ok, items-ok n)
+-- n of them before others
+times : ℕ → ℕ → List Item → List Item
+times zero amount is = is
+times (suc n) amount is = item amount ∷ times n amount is
 
-items-total : (n : ℕ) → totalOf (replicate n item) ≡ n
-unfolding item
-items-total zero = refl
-items-total (suc n) = omega (arith, items-total n)
+times-ok : (n amount : ℕ) (is : List Item) → In 1 maxAmount amount → ItemsOk Payments 123456789 is → ItemsOk Payments 123456789 (times n amount is)
+unfolding times
+times-ok zero amount is h k = k
+times-ok (suc n) amount is h k = (item-ok amount h, times-ok n amount is h k)
 
-items-lines : (n : ℕ) (k : List Rec) → length (itemsRecs Payments (replicate n item) k) ≡ 7 * n + length k
-unfolding item
-items-lines zero k = omega arith
-items-lines (suc n) k = omega (arith, items-lines n k)
+times-items : (n amount : ℕ) (is : List Item) → length (times n amount is) ≡ n + length is
+unfolding times
+times-items zero amount is = omega arith
+times-items (suc n) amount is = omega (arith, times-items n amount is)
 
-module _ (n : ℕ) (full : n ≡ 100000) where
+times-total : (n amount : ℕ) (is : List Item) → totalOf (times n amount is) ≡ n * amount + totalOf is
+unfolding item times
+times-total zero amount is = omega arith
+times-total (suc n) amount is = omega (arith, times-total n amount is)
+
+times-lines : (n amount : ℕ) (is : List Item) (k : List Rec) → length (itemsRecs Payments (times n amount is) k) ≡ 7 * n + length (itemsRecs Payments is k)
+unfolding item times
+times-lines zero amount is k = omega arith
+times-lines (suc n) amount is k = omega (arith, times-lines n amount is k)
+
+-- 100,000 items of the largest total of a batch: 99 of the largest amount, one of most of what is left, and the others of a cent
+module _ (n : ℕ) (full : n ≡ 99900) where
+  cents : List Item
+  cents = times n 1 []
+
+  items : List Item
+  items = times 99 45378021608 (times 1 45377921809 cents)
+
+  items-ok : ItemsOk Payments 123456789 items
+  unfolding items cents
+  items-ok = times-ok 99 45378021608 _ (omega arith) (times-ok 1 45377921809 _ (omega arith) (times-ok n 1 [] (omega arith) tt))
+
+  items-number : length items ≡ 100000
+  unfolding items cents
+  items-number = omega (arith, times-items 99 45378021608 (times 1 45377921809 cents), times-items 1 45377921809 cents, times-items n 1 [])
+
+  items-total : totalOf items ≡ 4537802160901
+  unfolding items cents
+  items-total = omega (arith, times-total 99 45378021608 (times 1 45377921809 cents), times-total 1 45377921809 cents, times-total n 1 [])
+
+  items-lines : (k : List Rec) → length (itemsRecs Payments items k) ≡ 700000 + length k
+  unfolding items cents
+  items-lines k = omega (arith, times-lines 99 45378021608 (times 1 45377921809 cents) k, times-lines 1 45377921809 cents k, times-lines n 1 [] k)
+
   -- with the number after s
   batch : ℕ → Batch
   batch s =
@@ -87,7 +123,7 @@ module _ (n : ℕ) (full : n ≡ 100000) where
         desired = 0;
         party = letters 35;
         testCode = 80 ∷ [];
-        items = replicate n item;
+        items = items;
       }
 
   batches : ℕ → ℕ → List Batch
@@ -102,9 +138,9 @@ module _ (n : ℕ) (full : n ≡ 100000) where
         fixed-ok = ((refl, tt), ((refl, tt), ((refl, tt), ((refl, tt), tt))));
         fixed-max = omega arith;
         party-ok = record { code-in = omega arith; code-ok = tt; desired-small = omega arith; desired-ok = tt; name-fits = (refl, tt); test-fits = (refl, tt); test-ok = tt };
-        items-ok = items-ok n;
-        items-in = omega (arith, length-replicate n item);
-        total-max = omega (arith, items-total n);
+        items-ok = items-ok;
+        items-in = omega (arith, items-number);
+        total-max = omega (arith, items-total);
       }
     where
       follows : (s : ℕ) → Follows s (suc s)
@@ -119,10 +155,15 @@ module _ (n : ℕ) (full : n ≡ 100000) where
   batches-lines : (s k : ℕ) (r : List Rec) → length (batchesRecs Payments (batches s k) r) ≡ 700007 * k + length r
   unfolding batch batches
   batches-lines s zero r = omega arith
-  batches-lines s (suc k) r = omega (arith, batches-lines (suc s) k r, items-lines n (trailer ∷ batchesRecs Payments (batches (suc s) k) r))
+  batches-lines s (suc k) r = omega (arith, batches-lines (suc s) k r, items-lines (trailer ∷ batchesRecs Payments (batches (suc s) k) r))
     where
       trailer : Rec
-      trailer = batchTrailerRec (totalOf (replicate n item)) (tenDigits (accountsOf (replicate n item))) (length (replicate n item))
+      trailer = batchTrailerRec (totalOf items) (tenDigits (accountsOf items)) (length items)
+
+  batches-sums : (s k : ℕ) → (itemsIn (batches s k) ≡ 100000 * k) × (amountIn (batches s k) ≡ 4537802160901 * k)
+  unfolding batch batches
+  batches-sums s zero = omega arith
+  batches-sums s (suc k) = let w = batches-sums (suc s) k in omega (arith, w .0, w .1, items-number, items-total)
 
   module _ (k : ℕ) (all : k ≡ 9999) where
     file : File
@@ -161,15 +202,21 @@ module _ (n : ℕ) (full : n ≡ 100000) where
     unfolding its-bytes Reads
     taken z = language (its-bytes z) .1 (file, (valid, (z, refl)))
 
-    as-long : (z : Ending) → (f : File) × (checkOf (linesOf (endBytes z) (fileRecs f)) ≡ acceptance 6999369995)
-    unfolding its-bytes
+    -- its answer, and its totals
+    as-long : (z : Ending) → (f : File) × (readOf (linesOf (endBytes z) (fileRecs f)) ≡ record { answer = acceptance 6999369995; totals = largestTotals })
+    unfolding its-bytes Reads file
     as-long z =
         let t = taken z in
         let l = path-lines (complete file valid) z in
         let m = count-lines (lines-read (its-bytes z) (t .0) (t .1)) in
         let e : t .0 ≡ 6999369995 = omega (arith, records) in
-        (file, subst (λ j. checkOf (its-bytes z) ≡ acceptance j) e (t .1))
+        let w = totalled (its-bytes z) .whole file (valid, (z, refl)) in
+        let b = batches-sums 0 k in
+        let i : totalsOf (its-bytes z) .items ≡ 999900000 = omega (arith, w .items, b .0) in
+        let a : totalsOf (its-bytes z) .amount ≡ 45373483806849099 = omega (arith, w .amount, b .1) in
+        let r : checkOf (its-bytes z) ≡ acceptance 6999369995 = t .1 ∙ ap acceptance e in
+        (file, λ j. record { answer = r j; totals = record { items = i j; amount = a j } })
 
--- THE LONGEST ACCEPTED FILE has 6,999,369,995 lines
-pub longest : Longest maxLine
-longest = record { none-longer = none-longer; one-as-long = as-long 100000 refl 9999 refl }
+-- THE LONGEST ACCEPTED FILE has 6,999,369,995 lines, and the largest totals
+pub longest : Longest maxLine largestTotals
+longest = record { none-longer = none-longer; none-larger = none-larger; one-as-long = as-long 99900 refl 9999 refl }

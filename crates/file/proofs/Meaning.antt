@@ -12,7 +12,8 @@ use Rattle.format.specs.Statements.{InLanguage, RefusalTells}
 use Rattle.format.proofs.Theorem.{readFile}
 use Rattle.format.proofs.Theorem as the
 use Rattle.reading.specs.State.{maxLine}
-use Rattle.reading.specs.Check.{checkOf}
+use Rattle.reading.specs.Check.{checkOf, readOf}
+use Rattle.reading.specs.declared.FileRead.{FileRead}
 use Rattle.file.specs.Meaning.{Means}
 use Rattle.file.proofs.Counted.{each-counted}
 use Rattle.file.proofs.Lines.{of-no-state}
@@ -79,5 +80,5 @@ none-longer b n e = by (same-answer b) e
     by (no k m c h) e = let q : k ≡ 0 = ap (λ (r : Answer). r .number) e in absurd (omega arith)
 
 -- what the answer means that a call gave
-pub meant : {a : Answer} (b : List ℕ) → a ≡ checkOf b → Means b a
-meant b e = subst (Means b) (sym e) (means b)
+pub meant : {r : FileRead} (b : List ℕ) → r ≡ readOf b → Means b (r .answer)
+meant b e = subst (λ (r : FileRead). Means b (r .answer)) (sym e) (means b)

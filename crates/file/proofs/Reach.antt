@@ -1,5 +1,5 @@
 -- What holds of every state of a run: its numbers are within 01's limits, and the lines read are no more than the batches and items read can have. Assumes nothing.
-use Prim.Native.Nat.{ℕ, zero, suc, _+_, _*_, _≤_, zero-le}
+use Prim.Native.Nat.{ℕ, zero, suc, _+_, _-_, _*_, _≤_, zero-le}
 use mathlib.Core.Path.{_≡_, refl, sym, ap, _∙_, subst}
 use mathlib.Core.List.{List, [], _∷_}
 use mathlib.Core.Bool.{Bool, true, false, not, _&&_, _||_}
@@ -20,8 +20,9 @@ use Rattle.format.proofs.Sound.{inRange→In, isNext→Follows}
 use Rattle.record.specs.Faults.{fieldsOf, faultOf}
 use Rattle.record.specs.Read.{transactionFor}
 use Rattle.record.specs.declared.Batch.{Batch}
+use Rattle.record.specs.declared.Totals.{Totals}
 use Rattle.record.specs.declared.TransactionFields.{TransactionFields}
-use Rattle.reading.specs.State.{startState, within, Limited}
+use Rattle.reading.specs.State.{startState, within, Bounded, Limited}
 use Rattle.reading.specs.Order.{stageNumber, isStage, isName, mayOpen, mayFix, mayEnd, mayPay, mayName, textsBy, mayText, mayRefer, mayDescribe, allowed}
 use Rattle.reading.specs.Step.{opened, withFixed, paid, named, texted, nextFor, nameIf, afterText, judgedFirst}
 use Rattle.reading.specs.declared.Stage.{Stage}
@@ -32,7 +33,7 @@ use Rattle.reading.specs.declared.State.{State}
 use Rattle.reading.specs.declared.Judged.{Judged}
 use Rattle.reading.proofs.Limits.{within-yes}
 use Rattle.reading.proofs.Verdicts.{First, beyond, halted, moved, first}
-use Rattle.reading.proofs.Judgements.{limited-after}
+use Rattle.reading.proofs.Judgements.{limited-first}
 use Rattle.record.proofs.Faultless.{faultless}
 
 -- a name and its city
@@ -56,14 +57,39 @@ Lines Item n q b m r d = (n + 700007 ≤ 700007 * q + 7 * b .items + 1 + referen
 Lines Closed n q b m r d = (n ≤ 700007 * q + 1) × (1 ≤ q)
 Lines Done n q b m r d = n ≤ 700007 * q + 2
 
+-- so many batches have at most 100,000 items each, and their largest total
+abbrev Sums : ℕ → Totals → Type 0
+Sums k t = (t .items ≤ 100000 * k) × (t .amount ≤ 4537802160901 * k)
+
+-- and all before the open one are closed
+abbrev SumsIn : Stage → ℕ → Totals → Type 0
+SumsIn Start q t = Sums 0 t
+SumsIn Headed q t = Sums 0 t
+SumsIn Opened q t = Sums (q - 1) t
+SumsIn Ordered q t = Sums (q - 1) t
+SumsIn Item q t = Sums (q - 1) t
+SumsIn Closed q t = Sums q t
+SumsIn Done q t = Sums q t
+
 abbrev LinesAt : Stage → State → Type 0
-LinesAt p s = Lines p (s .line) (s .before .sequence) (s .batch) (s .item .name) (s .item .reference) (s .item .descriptions)
+LinesAt p s = Lines p (s .line) (s .before .sequence) (s .batch) (s .item .name) (s .item .reference) (s .item .descriptions) × SumsIn p (s .before .sequence) (s .totals)
 
 abbrev pub Reach : State → Type 0
 Reach s = Limited s × LinesAt (s .stage) s
 
 pub reach-start : Reach startState
-reach-start = (record { items = zero-le; total = zero-le; accounts = zero-le; sequence = zero-le; fixed = zero-le; descriptions = zero-le }, (refl, refl))
+reach-start = (
+  record {
+    items = zero-le;
+    total = zero-le;
+    accounts = zero-le;
+    sequence = zero-le;
+    fixed = zero-le;
+    descriptions = zero-le;
+    totals = record { items = zero-le; amount = zero-le };
+  },
+  ((refl, refl), (zero-le, zero-le)),
+)
 
 few-names : (m : Name) → nameLines m ≤ 2
 few-names Unwanted = omega arith
@@ -159,7 +185,7 @@ module _ (s : State) (limited : Limited s) (i : LinesAt (s .stage) s) where
       let h = inRange→In 1 maxSequence n r in
       either (isStage (s .stage) Headed) (isStage (s .stage) Closed) a
       (λ p. let w = at-stage Headed p in omega arith)
-      (λ p. let w = at-stage Closed p in omega (arith, following (s .before .sequence) n (w .1) (isNext→Follows (s .before .sequence) n t)))
+      (λ p. let w = at-stage Closed p in omega (arith, following (s .before .sequence) n (w .0 .1) (isNext→Follows (s .before .sequence) n t)))
 
   paid-lines : (t : TransactionFields) → T (mayPay (s .stage) (s .item .name)) → LinesAt Item (paid s t)
   unfolding mayPay mayEnd
@@ -221,10 +247,32 @@ module _ (s : State) (limited : Limited s) (i : LinesAt (s .stage) s) where
 
 -- ## A run
 
-reach-first : {s : State} {xs : List ℕ} {j : Judged} → Reach s → First s xs j → LinesAt (j .next .stage) (j .next)
-reach-first i (beyond w) = i .1
-reach-first i (halted w c n z) = i .1
-reach-first {s} {xs} i (moved w k c a f) = lines-next s (i .0) (i .1) k (take 50 xs) (of-eq (allowed s k) a) f
+-- the totals after a record: only a trailer moves them
+sums-next : (s : State) (k : Kind) (line : List ℕ) → Limited s → LinesAt (s .stage) s → T (allowed s k) → Bounded (nextFor s k (fieldsOf k line) .totals)
+unfolding allowed mayEnd
+sums-next s FileHeader line k i a = k .totals
+sums-next s BatchHeaderB line k i a = k .totals
+sums-next s BatchHeaderC line k i a = k .totals
+sums-next s FixedDescription line k i a = k .totals
+sums-next s OrderingParty line k i a = k .totals
+sums-next s Transaction line k i a = k .totals
+sums-next s NamePayer line k i a = k .totals
+sums-next s CityPayer line k i a = k .totals
+sums-next s PaymentReference line k i a = k .totals
+sums-next s Description line k i a = k .totals
+sums-next s NameBeneficiary line k i a = k .totals
+sums-next s CityBeneficiary line k i a = k .totals
+sums-next s BatchTrailer line k i a =
+    let w = at-stage s k i Item (and-l (isStage (s .stage) Item) (not (isName (s .item .name) Due)) a) in
+    record { items = omega (arith, k .items, k .sequence); amount = omega (arith, k .total, k .sequence) }
+sums-next s FileTrailer line k i a = k .totals
+
+reach-first : {s : State} {xs : List ℕ} {j : Judged} → Reach s → First s xs j → LinesAt (j .next .stage) (j .next) × Bounded (j .next .totals)
+reach-first i (beyond w) = (i .1, i .0 .totals)
+reach-first i (halted w c n z) = (i .1, i .0 .totals)
+reach-first {s} {xs} i (moved w k c a f) =
+    let p = of-eq (allowed s k) a in
+    (lines-next s (i .0) (i .1) k (take 50 xs) p f, sums-next s k (take 50 xs) (i .0) (i .1) p)
 
 pub reach-next : (s : State) (xs : List ℕ) → Reach s → Reach (judgedFirst s xs .next)
-reach-next s xs i = (limited-after s xs refl (i .0), reach-first i (first s xs))
+reach-next s xs i = let w = reach-first i (first s xs) in (limited-first (i .0) (first s xs) (w .1), w .0)

@@ -54,14 +54,14 @@ reach-step s (x ∷ xs) i =
     let t = read (take 50 (x ∷ xs)) (j .code) j (first-of-file s (x ∷ xs) (reach-within s i)) in
     (subst Reach (sym (t .0)) (reach-next s (x ∷ xs) i), t .1)
 
-reached : {s : State} → Reached s → Reach s
+reached : {lines : List ℕ} {s : State} → Reached lines s → Reach s
 reached at-start = reach-start
-reached (one-step {s} bytes r) = reach-step s bytes (reached r) .0
+reached (one-step {s = s} bytes r) = reach-step s bytes (reached r) .0
 
 -- EVERY STATE OF A RUN IS WITHIN THE LIMITS
-pub reached-within : {s : State} → Reached s → within s ≡ true
-reached-within {s} r = reach-within s (reached r)
+pub reached-within : {lines : List ℕ} {s : State} → Reached lines s → within s ≡ true
+reached-within {s = s} r = reach-within s (reached r)
 
 -- NO STEP OF A RUN IS ANSWERED 24
-pub reached-answers : {s : State} → Reached s → (bytes : List ℕ) → stepAt s bytes .answer .number ≢ beyondLimits
-reached-answers {s} r bytes = of-no-state (stepAt s bytes .answer .number) (reach-step s bytes (reached r) .1)
+pub reached-answers : {lines : List ℕ} {s : State} → Reached lines s → (bytes : List ℕ) → stepAt s bytes .answer .number ≢ beyondLimits
+reached-answers {s = s} r bytes = of-no-state (stepAt s bytes .answer .number) (reach-step s bytes (reached r) .1)

@@ -32,7 +32,7 @@ use Rattle.reading.specs.declared.Name.{Name}
 use Rattle.reading.specs.declared.Name.the-variants.{Unwanted, Due, Read, Past}
 use Rattle.reading.specs.declared.State.{State}
 use Rattle.reading.specs.declared.Judged.{Judged}
-use Rattle.reading.specs.State.{startState, isLimited, within}
+use Rattle.reading.specs.State.{startState, areWithin, isLimited, within}
 use Rattle.reading.specs.Order.{isStage}
 use Rattle.reading.specs.Step.{refused, taken, judgedLine, takenWith, withCut, isDone, judgedFirst, endedAt}
 use Rattle.reading.specs.Check.{judgedAfter, judgedLines, answerBy, checkOf, restOf}
@@ -73,7 +73,7 @@ done-at s = is-end (s .stage) (knownGroup (s .before)) (s .before .group) (4 - s
 step-50 : (s : State) (c : List ℕ) → step (placeOf s) (take 50 c) ≡ step (placeOf s) c
 step-50 s c = ap₂ (λ c l. the.found (contextOf (s .before) (s .batch)) c l (the.find c (the.choices (phaseOf s)))) (take-take 5 50 c (omega arith)) (ap (take 45) (drop-take 5 45 c) ∙ take-take 45 45 (drop 5 c) (omega arith))
 
-step-next : (s : State) (b : List ℕ) → step (placeOf s) (nextLine b) ≡ step (placeOf s) (take 50 b)
+pub step-next : (s : State) (b : List ℕ) → step (placeOf s) (nextLine b) ≡ step (placeOf s) (take 50 b)
 step-next s b = sym (step-50 s (nextLine b)) ∙ ap (step (placeOf s)) (next-fifty b)
 
 abbrev theRun : ℕ → the.State → EndingSoFar → ℕ → List ℕ → base.Result
@@ -159,5 +159,5 @@ simulates (suc k) j (x ∷ xs) l z i =
 
 -- THE SAME ANSWER for every list of bytes
 pub same-answer : (b : List ℕ) → Says (checkOf b) (readFile b)
-unfolding checkOf restOf judgedLines within isLimited pick readFile lines.answer
+unfolding checkOf restOf judgedLines within isLimited areWithin pick readFile lines.answer
 same-answer b = simulates (suc (length b)) (refused startState 0 0) b (omega arith) refl reach-start

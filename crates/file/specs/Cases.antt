@@ -1,4 +1,4 @@
--- 01's cases that are proved (1 to 11), a file without a batch, the example with each line end, and those of 02's requests [1] to [3], of the definitions that the contracts name, in one table.
+-- 01's cases that are proved (1 to 11), a file without a batch, the example with each line end, and those of 02's requests [1] to [3] and [5], of the definitions that the contracts name, in one table.
 use mathlib.Core.Path.{_≡_}
 use mathlib.Core.Bool.{Bool, true, false}
 use mathlib.Core.List.{List, [], _∷_, _++_}
@@ -12,7 +12,7 @@ use Rattle.machine.specs.Texts.{characters}
 use Rattle.descriptions.specs.Texts.{mergeOf}
 use Rattle.format.specs.Rules.{maxAmount, mostDescriptions, weighted, isEleven, isDate, typeText}
 use Rattle.format.specs.Language.{File, Rec, batchHeaderRec, batchTrailerRec, crlf, endBytes, lineOf, Reads}
-use Rattle.format.specs.Answers.{accepted, brokenLine, misplacedRecord, wrongForm, wrongValue, wrongAccount, differs, aboveMaximum, endsEarly, ordinaryAccount, refusal, acceptance}
+use Rattle.format.specs.Answers.{accepted, brokenLine, misplacedRecord, wrongForm, wrongValue, wrongAccount, differs, aboveMaximum, endsEarly, ordinaryAccount, beyondLimits, refusal, acceptance}
 use Rattle.format.specs.declared.Answer.{Answer}
 use Rattle.format.specs.declared.EndingSoFar.{EndingSoFar}
 use Rattle.format.specs.declared.EndingSoFar.the-variants.{Unknown, CrLf, Lf}
@@ -22,13 +22,13 @@ use Rattle.format.specs.declared.Group.the-variants.{Payments, Debits}
 use Rattle.format.specs.declared.TransactionType.{TransactionType}
 use Rattle.format.specs.declared.TransactionType.the-variants.{UncheckedCreditor, UncheckedSalary, Creditor, Salary, Debit, UncheckedDebit}
 use Rattle.field.specs.Taught.{runningTotals, secondSum, isElevenTaught}
-use Rattle.record.specs.Faults.{nothingBefore, afterHeader, faultAt, noFault, faultOf}
+use Rattle.record.specs.Faults.{nothingBefore, afterHeader, noTotals, faultAt, noFault, faultOf}
 use Rattle.record.specs.declared.Before.{Before}
 use Rattle.record.specs.declared.Batch.{Batch}
 use Rattle.record.specs.declared.Fault.{Fault}
 use Rattle.reading.specs.State.{noItem, startState}
 use Rattle.reading.specs.Step.{stepAt}
-use Rattle.reading.specs.Check.{checkOf}
+use Rattle.reading.specs.Check.{checkOf, totalsOf}
 use Rattle.reading.specs.declared.Stage.the-variants.{Ordered}
 use Rattle.reading.specs.declared.State.{State}
 use Rattle.reading.specs.declared.LineRead.{LineRead}
@@ -53,6 +53,12 @@ pub data Case : Type 0 where
   reading : List ℕ → File → Case
   -- the bytes of a file, how many of them its first line takes, and the ending that the state has after it
   firstLine : List ℕ → ℕ → EndingSoFar → Case
+  -- the bytes of a file, and the items and the amount of the batches that it closes
+  fileTotals : List ℕ → ℕ → ℕ → Case
+  -- a state handed in with so many items and so much before it, and what the end of the file is answered
+  handedIn : ℕ → ℕ → ℕ → Case
+  -- the same, its batch of one cent closed by a trailer that is accepted, and what the end of the file after it is answered
+  closed : ℕ → ℕ → ℕ → Case
 
 -- after a batch header of a group and a number
 abbrev after : Group → ℕ → Before
@@ -108,11 +114,19 @@ ordered account =
       stage = Ordered;
       before = after Payments 1;
       batch = record { account = account; items = 0; total = 0; accounts = 0; fixed = 0 };
+      totals = noTotals;
       item = noItem;
     }
 
 abbrev paidOne : ℕ → ℕ → LineRead
 paidOne payer beneficiary = stepAt (ordered payer) (lineBytes (cent payer beneficiary))
+
+-- a state with such totals
+abbrev totalling : ℕ → ℕ → State → State
+totalling items amount s = record { line = s .line; stage = s .stage; before = s .before; batch = s .batch; totals = record { items = items; amount = amount }; item = s .item }
+
+abbrev closedOne : ℕ → ℕ → LineRead
+closedOne items amount = stepAt (totalling items amount (paidOne 123456789 111111110 .next)) (lineBytes (trailer 234567899))
 
 abbrev Holds : Case → Type 0
 Holds (eleven account sum passes) =
@@ -133,6 +147,12 @@ Holds (merging reference fixed own handed) = mergeOf (mostDescriptions reference
 Holds (file bytes answer) = checkOf bytes ≡ answer
 Holds (reading bytes f) = Reads bytes f
 Holds (firstLine bytes n ending) = (stepAt startState bytes .bytes ≡ n) × (stepAt startState bytes .next .before .ending ≡ ending)
+Holds (fileTotals bytes items amount) = totalsOf bytes ≡ record { items = items; amount = amount }
+Holds (handedIn items amount number) = stepAt (totalling items amount startState) [] .answer .number ≡ number
+Holds (closed items amount number) =
+    (closedOne items amount .answer .number ≡ accepted)
+    × (closedOne items amount .next .totals ≡ record { items = items + 1; amount = amount + 1 })
+    × (stepAt (closedOne items amount .next) [] .answer .number ≡ number)
 
 abbrev pub Each : List Case → Type 0
 Each [] = Unit {0}
@@ -240,5 +260,21 @@ uncheckedCases =
     ∷ file (take 291 (example end1310) ++ (characters "0123456789" ++ drop 301 (example end1310))) (refusal ordinaryAccount 6 32)
     ∷ []
 
+-- 02's [5], 'file-items=2 and file-amount=152550': the example; without its file trailer; without its batch trailer too, so that the batch is open; with a wrong total in the batch trailer, which is refused; and with a second batch header after it. Then a state at both limits, above each, and at both with a batch that is closed
+abbrev pub totalCases : List Case
+totalCases =
+    fileTotals (example end1310) 2 152550
+    ∷ fileTotals (take (8 * 52) (example end1310)) 2 152550
+    ∷ fileTotals (take (7 * 52) (example end1310)) 0 0
+    ∷ fileTotals (take (7 * 52 + 22) (example end1310) ++ (49 ∷ drop (7 * 52 + 23) (example end1310))) 0 0
+    ∷ fileTotals (take (8 * 52) (example end1310) ++ lineBytes (header 2)) 2 152550
+    ∷ handedIn 999900000 45373483806849099 endsEarly
+    ∷ handedIn 999900001 0 beyondLimits
+    ∷ handedIn 0 45373483806849100 beyondLimits
+    ∷ closed 999899999 45373483806849098 endsEarly
+    ∷ closed 999900000 0 beyondLimits
+    ∷ closed 0 45373483806849099 beyondLimits
+    ∷ []
+
 abbrev pub cases : List (List Case)
-cases = accountCases ∷ amountCases ∷ sumCases ∷ dateCases ∷ descriptionCases ∷ sequenceCases ∷ orderCases ∷ fileCases ∷ endingCases ∷ uncheckedCases ∷ []
+cases = accountCases ∷ amountCases ∷ sumCases ∷ dateCases ∷ descriptionCases ∷ sequenceCases ∷ orderCases ∷ fileCases ∷ endingCases ∷ uncheckedCases ∷ totalCases ∷ []

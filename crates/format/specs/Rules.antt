@@ -24,6 +24,13 @@ maxTotal = 4537802160901
 abbrev pub maxItems : ℕ
 maxItems = 100000
 
+-- of all batches of a file (02): 'The largest total is 45,373,483,806,849,099 cents', and 999,900,000 items
+abbrev pub maxFileAmount : ℕ
+maxFileAmount = 45373483806849099
+
+abbrev pub maxFileItems : ℕ
+maxFileItems = 999900000
+
 -- the largest number of ten digits
 abbrev pub maxAccount : ℕ
 maxAccount = 9999999999

@@ -13,7 +13,8 @@ use Rattle.format.specs.declared.Answer.{Answer}
 use Rattle.format.specs.Cutting.{linesIn}
 use Rattle.format.specs.Rules.{mostDescriptions, isType}
 use Rattle.field.proofs.Putting.{put-front}
-use Rattle.reading.specs.Check.{checkOf}
+use Rattle.reading.specs.Check.{readOf}
+use Rattle.reading.specs.declared.FileRead.{FileRead}
 use Rattle.descriptions.specs.Texts.{merged}
 use Rattle.descriptions.specs.declared.Descriptions.{Descriptions}
 use Rattle.items.specs.Search.{noFields, started, afterLines}
@@ -89,11 +90,11 @@ pub ruleset limits = (at-within, at-beyond, room-within, room-beyond, needs)
 
 -- ## The whole
 
-module _ {s t : Search} {a : Answer} (file : List ℕ) (batch item : ℕ) (e : a ≡ checkOf file) (f : s ≡ started batch item) (g : t ≡ afterLines s (linesIn file)) where
-  pub item-via : {w : ItemRead} (room : ℕ) → w ≡ answeredBy t a room → w ≡ itemOf file batch item room
+module _ {s t : Search} {r : FileRead} (file : List ℕ) (batch item : ℕ) (e : r ≡ readOf file) (f : s ≡ started batch item) (g : t ≡ afterLines s (linesIn file)) where
+  pub item-via : {w : ItemRead} (room : ℕ) → w ≡ answeredBy t (r .answer) room → w ≡ itemOf file batch item room
   unfolding itemOf
-  item-via room h = h ∙ ap₂ (λ x y. answeredBy x y room) (g ∙ ap (λ x. afterLines x (linesIn file)) f) e
+  item-via room h = h ∙ ap₂ (λ x (y : FileRead). answeredBy x (y .answer) room) (g ∙ ap (λ x. afterLines x (linesIn file)) f) e
 
-  pub room-via : {o : List ℕ} (out : List ℕ) → o ≡ roomBy t a out → o ≡ roomAfter file batch item out
+  pub room-via : {o : List ℕ} (out : List ℕ) → o ≡ roomBy t (r .answer) out → o ≡ roomAfter file batch item out
   unfolding roomAfter
-  room-via out h = h ∙ ap₂ (λ x y. roomBy x y out) (g ∙ ap (λ x. afterLines x (linesIn file)) f) e
+  room-via out h = h ∙ ap₂ (λ x (y : FileRead). roomBy x (y .answer) out) (g ∙ ap (λ x. afterLines x (linesIn file)) f) e

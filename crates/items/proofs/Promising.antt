@@ -21,7 +21,8 @@ use Rattle.format.specs.declared.TypeRead.the-variants.{Of, NoType}
 use Rattle.format.proofs.Complete.{complete}
 use Rattle.record.specs.Read.{transactionFor}
 use Rattle.record.specs.declared.TransactionFields.{TransactionFields}
-use Rattle.reading.specs.Check.{checkOf}
+use Rattle.reading.specs.Check.{checkOf, readOf}
+use Rattle.reading.specs.declared.FileRead.{FileRead}
 use Rattle.format.specs.Answers.{refusal, acceptance}
 use Rattle.format.specs.declared.Answer.{Answer}
 use Rattle.reading.proofs.Judgements.{four-at-most}
@@ -199,10 +200,10 @@ module _ (file : List ℕ) (batch item : ℕ) where
       }
 
   -- of the function's own result
-  pub promised-via : {s t : Search} {a : Answer} {w : ItemRead} {o : List ℕ} (out : List ℕ) → a ≡ checkOf file → s ≡ started batch item → t ≡ afterLines s (linesIn file) → w ≡ answeredBy t a (length out) → o ≡ roomBy t a out → Promised file batch item out w o
+  pub promised-via : {s t : Search} {r : FileRead} {w : ItemRead} {o : List ℕ} (out : List ℕ) → r ≡ readOf file → s ≡ started batch item → t ≡ afterLines s (linesIn file) → w ≡ answeredBy t (r .answer) (length out) → o ≡ roomBy t (r .answer) out → Promised file batch item out w o
   unfolding asked searched
   promised-via {w = w} out e f g h k =
       let u = g ∙ ap (λ x. afterLines x (linesIn file)) f in
-      let p : w ≡ asked (length out) = h ∙ ap₂ (λ x y. answeredBy x y (length out)) u e in
-      let q = k ∙ ap₂ (λ x y. roomBy x y out) u e in
+      let p : w ≡ asked (length out) = h ∙ ap₂ (λ x (y : FileRead). answeredBy x (y .answer) (length out)) u e in
+      let q = k ∙ ap₂ (λ x (y : FileRead). roomBy x (y .answer) out) u e in
       subst (Promised file batch item out w) (sym q) (subst (λ x. Promised file batch item out x (roomBy searched (checkOf file) out)) (sym p) (promised out))

@@ -100,7 +100,8 @@ pub fn item(file: &[u8], batch: u64, item: u64, out: &mut [u8]) -> ItemRead
     ensures bytes { λ _. ⌜ now (out .exit) ≡ roomAfter (now (file .entry)) batch item (now (out .entry)) ⌝ }
     ensures meaning { λ r. ⌜ Promised (now (file .entry)) batch item (now (out .entry)) r (now (out .exit)) ⌝ }
 {
-    let answer = file::check(file);
+    let read = file::check(file);
+    let answer = read.answer;
     let search = Search::start(batch, item);
     let after = search.lines(file);
     after.hand_out(answer, out)

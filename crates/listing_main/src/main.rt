@@ -1,5 +1,5 @@
-// Prints the listing of each file that its arguments name, or of standard input: its header, each closed batch, and
-// the answer.
+// Prints the listing of each file that its arguments name, or of standard input: its header, each closed batch, what
+// these come to, and the answer.
 use field::bytes::part;
 use format::Answer;
 use format::Group;
@@ -12,6 +12,7 @@ use page::put_number;
 use reading::State;
 use record::ClosedBatch;
 use record::Record;
+use record::Totals;
 use record::types::group_text;
 use streams::Lines;
 
@@ -137,10 +138,17 @@ fn unlisted(at: usize) -> Listed {
     }
 }
 
-// The answer, after what is gathered; whether all was written.
+fn put_totals(page: &mut [u8], at: usize, totals: Totals) -> usize {
+    let a = put_number(page, at, b"file-items=", totals.items, 1);
+    put_number(page, a, b"file-amount=", totals.amount, 1)
+}
+
+// The totals and the answer, after what is gathered; whether all was written.
 fn is_answered(listed: Listed, page: &mut [u8]) -> bool {
+    let state = listed.state;
     let answer = listed.answer;
-    let end = put_answer(page, listed.at, answer);
+    let a = put_totals(page, listed.at, state.totals);
+    let end = put_answer(page, a, answer);
     streams::told(io::write_all(STDOUT_FILENO, part(page, 0, end)))
 }
 

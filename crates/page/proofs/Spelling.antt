@@ -1,7 +1,7 @@
 -- Numbers spelt in digits. Assumes nothing.
-use Prim.Native.Nat.{ℕ, suc, _+_, _-_, _≤_, _<_}
+use Prim.Native.Nat.{ℕ, suc, _+_, _-_, _/_, _%_, _≤_, _<_}
 use mathlib.Core.Path.{_≡_, refl, sym, ap, ap₂, _∙_}
-use mathlib.Core.List.{List, _∷_}
+use mathlib.Core.List.{List, [], _∷_}
 use native.Mathlib.Omega.{arith}
 use native.Mathlib.Numerals.{add-one}
 use borrow.Author.Needs.{needs}
@@ -13,7 +13,7 @@ use Rattle.machine.specs.Lists.{pick}
 use Rattle.machine.specs.Digits.{decimal}
 use Rattle.machine.proofs.Digits.{length-decimal}
 use Rattle.format.specs.Answers.{refusal}
-use Rattle.page.specs.Lines.{lineOf, withText, withoutZeros, numberText, answerKey, lineKey, columnKey, withAnswer}
+use Rattle.page.specs.Lines.{lineOf, withText, withoutZeros, numberText, withEuros, answerKey, lineKey, columnKey, withAnswer}
 
 -- ## Zeros in front
 
@@ -69,3 +69,7 @@ unfolding withAnswer
 answer-lines page number line column k l m = m ∙ ap (λ u. withText u (lineOf columnKey (numberText 1 column))) (l ∙ ap (λ u. withText u (lineOf lineKey (numberText 1 line))) k)
 
 pub ruleset answers = (answer-lines, needs)
+
+pub euros-put : {p q : List ℕ} {a b : ℕ} {o : List ℕ × ℕ} (page : List ℕ × ℕ) (cents : ℕ) → (p, a) ≡ withText page (numberText 1 (cents / 100)) → (q, b) ≡ withText (p, a) (46 ∷ []) → o ≡ withText (q, b) (numberText 2 (cents % 100)) → o ≡ withEuros page cents
+unfolding withEuros
+euros-put page cents k l m = m ∙ ap (λ u. withText u (numberText 2 (cents % 100))) (l ∙ ap (λ u. withText u (46 ∷ [])) k)

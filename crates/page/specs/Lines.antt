@@ -1,5 +1,5 @@
 -- Key=value lines on a page: its bytes, and how far it is filled.
-use Prim.Native.Nat.{ℕ, zero, suc, _+_, _-_}
+use Prim.Native.Nat.{ℕ, zero, suc, _+_, _-_, _/_, _%_}
 use mathlib.Core.List.{List, [], _∷_, _++_}
 use mathlib.Core.Bool.{Bool}
 use lib.ListN.{length}
@@ -25,6 +25,10 @@ withoutZeros (suc k) (c ∷ l) = pick (eqb c 48) (withoutZeros k l) (c ∷ l)
 -- A NUMBER of at least so many digits: one at any rate, and no more than twenty
 unfoldable pub numberText : ℕ → ℕ → List ℕ
 numberText least n = withoutZeros (19 - (least - 1)) (decimal 20 n)
+
+-- AN AMOUNT OF CENTS as euros: a point before its last two digits
+unfoldable pub withEuros : List ℕ × ℕ → ℕ → List ℕ × ℕ
+withEuros page cents = withText (withText (withText page (numberText 1 (cents / 100))) (46 ∷ [])) (numberText 2 (cents % 100))
 
 -- answer=, line= and column=
 abbrev pub answerKey : List ℕ

@@ -7,7 +7,7 @@ ghost use lib.ListN.{length, drop};
 ghost use lib.Dec.{leb};
 ghost use Rattle.machine.specs.Lists.{pasted};
 ghost use Rattle.format.specs.Answers.{refusal};
-ghost use Rattle.page.specs.Lines.{lineOf, withText, withoutZeros, numberText, withAnswer, withInput};
+ghost use Rattle.page.specs.Lines.{lineOf, withText, withoutZeros, numberText, withEuros, withAnswer, withInput};
 use field::bytes::part;
 use field::bytes::put;
 use field::numbers::spelt;
@@ -91,13 +91,22 @@ fn zeros(digits: &[u8], most: usize) -> usize
     z
 }
 
-// A number without zeros in front.
-pub fn put_digits(page: &mut [u8], at: usize, n: u64) -> usize
-    ensures { λ r. ⌜ (now (page .exit), r) ≡ withText (now (page .entry), at) (numberText 1 n) ⌝ }
+// A number of at least so many digits.
+pub fn put_digits(page: &mut [u8], at: usize, n: u64, least: usize) -> usize
+    ensures { λ r. ⌜ (now (page .exit), r) ≡ withText (now (page .entry), at) (numberText least n) ⌝ }
 {
     let digits = spelt(n);
-    let z = zeros(&digits, spare(1));
+    let z = zeros(&digits, spare(least));
     put_text(page, at, part(&digits, z, 20))
+}
+
+// An amount of cents as euros.
+pub fn put_euros(page: &mut [u8], at: usize, cents: u64) -> usize
+    ensures { λ r. ⌜ (now (page .exit), r) ≡ withEuros (now (page .entry), at) cents ⌝ }
+{
+    let a = put_digits(page, at, cents / 100, 1);
+    let b = put_text(page, a, b".");
+    put_digits(page, b, cents % 100, 2)
 }
 
 // A key and a number of at least so many digits.

@@ -22,10 +22,11 @@ use Rattle.record.specs.Read.{recordFor, textFor, valuesOf}
 use Rattle.record.specs.declared.Record.{Record}
 use Rattle.reading.specs.State.{startState, within}
 use Rattle.reading.specs.Step.{refused, judgedFirst, refusalLine, nothingRead, readBy, endedAt, stepAt}
-use Rattle.reading.specs.Check.{judgedAfter, judgedLines, answerBy, restOf, checkOf}
+use Rattle.reading.specs.Check.{judgedAfter, judgedLines, answerBy, restOf, checkOf, totalsAfter, totalsOf, readAfter, readOf}
 use Rattle.reading.specs.declared.State.{State}
 use Rattle.reading.specs.declared.Judged.{Judged}
 use Rattle.reading.specs.declared.LineRead.{LineRead}
+use Rattle.reading.specs.declared.FileRead.{FileRead}
 use Rattle.record.proofs.Reading.{valued}
 use Rattle.reading.proofs.Limits.{within-line}
 use Rattle.reading.proofs.Judgements.{first-beyond}
@@ -152,15 +153,23 @@ module _ {j : Judged} (s : State) (xs : List ℕ) (e : j ≡ judgedLines s xs) w
   pub rest-named : (j .number ≡ 0 → ⊥) → refusalLine (j .number) (j .next .line) ≤ 6999369996
   rest-named z = name-small (j .number) (j .next .line) (is-named z)
 
-  pub rest-stop : {l : ℕ} {a : Answer} → (j .number ≡ 0 → ⊥) → l ≡ refusalLine (j .number) (j .next .line) → a ≡ refusal (j .number) l (j .column) → a ≡ restOf s xs
-  unfolding restOf pick
-  rest-stop z h f = f ∙ ap (λ n. refusal (j .number) n (j .column)) h ∙ sym (ap answerBy (sym e) ∙ rw (ne-eqb _ _ z))
+  -- an answer of it, with the totals of the last state
+  abbrev Reads : Answer → Type 0
+  Reads a = _≡_ {A = FileRead} (record { answer = a; totals = j .next .totals }) (readAfter s xs)
 
-  pub rest-end : {a : Answer} → j .number ≡ 0 → a ≡ endedAt (j .next) → a ≡ restOf s xs
+  with-totals : {a : Answer} → a ≡ restOf s xs → Reads a
+  unfolding totalsAfter
+  with-totals h = let t = ap (λ (i : Judged). i .next .totals) e in λ i. record { answer = h i; totals = t i }
+
+  pub rest-stop : {l : ℕ} {a : Answer} → (j .number ≡ 0 → ⊥) → l ≡ refusalLine (j .number) (j .next .line) → a ≡ refusal (j .number) l (j .column) → Reads a
   unfolding restOf pick
-  rest-end z h = h ∙ sym (ap answerBy (sym e) ∙ rw (eq-eqb _ _ z))
+  rest-stop z h f = with-totals (f ∙ ap (λ n. refusal (j .number) n (j .column)) h ∙ sym (ap answerBy (sym e) ∙ rw (ne-eqb _ _ z)))
+
+  pub rest-end : {a : Answer} → j .number ≡ 0 → a ≡ endedAt (j .next) → Reads a
+  unfolding restOf pick
+  rest-end z h = with-totals (h ∙ sym (ap answerBy (sym e) ∙ rw (eq-eqb _ _ z)))
 
 -- of a state that a call gave as the start
-pub checked : {a : Answer} {s : State} (file : List ℕ) → s ≡ startState → a ≡ restOf s file → a ≡ checkOf file
-unfolding checkOf
-checked file b e = e ∙ ap (λ u. restOf u file) b
+pub checked : {r : FileRead} {s : State} (file : List ℕ) → s ≡ startState → r ≡ readAfter s file → r ≡ readOf file
+unfolding checkOf totalsOf
+checked file b e = e ∙ ap (λ u. readAfter u file) b

@@ -8,8 +8,8 @@ use borrow.Author.Tests.{eq-eqb, ne-eqb, ltb-true, eqb-true, eqb-false}
 use lib.ListN.{take}
 use lib.Dec.{eqb}
 use Rattle.machine.specs.Lists.{pick}
-use Rattle.machine.proofs.Base.{and-second, never}
-use Rattle.format.specs.Records.{amount}
+use Rattle.machine.proofs.Base.{and-second, never, true≢false}
+use Rattle.format.specs.Records.{Fields, amount}
 use Rattle.format.specs.Rules.{maxFixed, maxDescriptions, mostDescriptions}
 use Rattle.format.specs.Cutting.{isOpen, cutOf}
 use Rattle.format.specs.declared.Kind.{Kind}
@@ -23,18 +23,20 @@ use Rattle.record.specs.Read.{transactionFor, transactionOf, valuesOf}
 use Rattle.record.specs.declared.Before.{Before}
 use Rattle.record.specs.declared.Batch.{Batch}
 use Rattle.record.specs.declared.Fault.{Fault}
+use Rattle.record.specs.declared.Totals.{Totals}
 use Rattle.record.specs.declared.TransactionRead.{TransactionRead}
 use Rattle.record.proofs.Reading.{valued}
 use Rattle.format.proofs.Every.{every}
 use Rattle.record.proofs.BatchFaults.{header-bounded, identified-bounded}
 use Rattle.record.proofs.ItemFaults.{transaction-read, transaction-refused, transaction-taken, transaction-bounded, below-maxima}
-use Rattle.reading.specs.State.{Limited, within}
-use Rattle.reading.specs.Bounds.{Small}
+use Rattle.reading.specs.State.{areWithin, within, Bounded, Limited}
+use Rattle.reading.specs.Bounds.{Small, Going, haltAt}
 use Rattle.reading.specs.Order.{isStage, mayFix, mayText, mayDescribe, allowed}
 use Rattle.reading.specs.Step.{nextFor, paid, refused, taken, judgedBy, judgedAs, judgedKind, judgedCode, judgedLine, withEnding, withCut, isDone, judgedFirst}
-use Rattle.reading.specs.declared.Stage.the-variants.{Opened}
+use Rattle.reading.specs.declared.Stage.the-variants.{Opened, Closed}
 use Rattle.reading.specs.declared.State.{State}
 use Rattle.reading.specs.declared.Judged.{Judged}
+use Rattle.reading.proofs.Limits.{bounded-facts, bounded-test, within-limited, going-on}
 use Rattle.reading.proofs.Verdicts.{First, beyond, halted, moved, first}
 
 -- with the state as it was
@@ -127,19 +129,27 @@ module _ (s : State) (xs : List ℕ) where
   unfolding judgedFirst pick
   first-beyond w h = rw w h
 
-  module _ (w : within s ≡ true) {d : Bool} (e : d ≡ isDone s) where
-    pub first-done : {x : Judged} → d ≡ true → x ≡ refused s 0 11 → x ≡ judgedFirst s xs
-    unfolding judgedFirst pick
-    first-done t h = rw (w, ← e, t) h
+  module _ {n : ℕ} (e : n ≡ haltAt s) where
+    pub first-halted : {x : Judged} → (n ≡ 0 → ⊥) → x ≡ refused s 0 n → x ≡ judgedFirst s xs
+    unfolding judgedFirst haltAt pick
+    first-halted z h = h ∙ by (within s) (isDone s) e z
+      where
+        line : Judged
+        line = pick (isOpen (s .before .ending) (cutOf xs .ending)) (withCut (cutOf xs) (judgedLine s (take 50 xs))) (refused s 0 1)
 
-    module _ (t : d ≡ false) {k : Cut} (i : k ≡ cutOf xs) {o : Bool} (f : o ≡ isOpen (s .before .ending) (k .ending)) where
+        by : (a b : Bool) → n ≡ pick a (pick b 11 0) 24 → (n ≡ 0 → ⊥) → refused s 0 n ≡ pick a (pick b (refused s 0 11) line) (refused s 0 24)
+        by true true i z = ap (refused s 0) i
+        by true false i z = absurd (z i)
+        by false b i z = ap (refused s 0) i
+
+    module _ (z : n ≡ 0) {k : Cut} (i : k ≡ cutOf xs) {o : Bool} (f : o ≡ isOpen (s .before .ending) (k .ending)) where
       pub first-line : {x j : Judged} {p : List ℕ} → o ≡ true → p ≡ take 50 xs → j ≡ judgedLine s p → x ≡ withCut k j → x ≡ judgedFirst s xs
       unfolding judgedFirst pick
-      first-line u q g h = rw (w, ← e, t, ← i, ← f, u) (h ∙ ap (withCut k) (g ∙ ap (judgedLine s) q))
+      first-line u q g h = let w = going-on s e z in rw (w .0, w .1, ← i, ← f, u) (h ∙ ap (withCut k) (g ∙ ap (judgedLine s) q))
 
       pub first-broken : {x : Judged} → o ≡ false → x ≡ refused s 0 1 → x ≡ judgedFirst s xs
       unfolding judgedFirst pick
-      first-broken u h = rw (w, ← e, t, ← i, ← f, u) h
+      first-broken u h = let w = going-on s e z in rw (w .0, w .1, ← i, ← f, u) h
 
 -- ## The limits after a line
 
@@ -170,8 +180,8 @@ item-room p b line z = by (transactionOf (p .group) (b .account) line) refl (eqb
         subst (λ t. HasRoom b (t .amount)) (transaction-read p b line e y) (below-maxima b (r .read .amount) m)
     by r e false h = absurd (eqb-false (r .number) 0 h (ap (λ (f : Fault). f .number) (sym (transaction-refused p b line e (eqb-false (r .number) 0 h))) ∙ z))
 
-same-limited : {s u : State} → u .before .sequence ≡ s .before .sequence → u .batch ≡ s .batch → u .item .descriptions ≡ s .item .descriptions → Limited s → Limited u
-same-limited p b d k =
+same-limited : {s u : State} → u .before .sequence ≡ s .before .sequence → u .batch ≡ s .batch → u .totals ≡ s .totals → u .item .descriptions ≡ s .item .descriptions → Limited s → Limited u
+same-limited p b t d k =
     record {
       items = rw b (k .items);
       total = rw b (k .total);
@@ -179,37 +189,56 @@ same-limited p b d k =
       sequence = rw p (k .sequence);
       fixed = rw b (k .fixed);
       descriptions = rw d (k .descriptions);
+      totals = rw t (k .totals);
     }
 
-limited-next : (s : State) (k : Kind) (line : List ℕ) → allowed s k ≡ true → faultOf (s .before) (s .batch) k line .number ≡ 0 → Limited s → Limited (nextFor s k (fieldsOf k line))
-limited-next s FileHeader line a f k = same-limited {s = s} refl refl refl k
-limited-next s BatchHeaderB line a f k =
-    record { items = zero-le; total = zero-le; accounts = zero-le; sequence = header-bounded (s .before) (s .batch) line f; fixed = zero-le; descriptions = zero-le }
-limited-next s BatchHeaderC line a f k =
-    record { items = zero-le; total = zero-le; accounts = zero-le; sequence = identified-bounded (s .before) (s .batch) line f; fixed = zero-le; descriptions = zero-le }
-limited-next s FixedDescription line a f k =
+limited-next : (s : State) (k : Kind) (line : List ℕ) → allowed s k ≡ true → faultOf (s .before) (s .batch) k line .number ≡ 0 → Limited s → Bounded (nextFor s k (fieldsOf k line) .totals) → Limited (nextFor s k (fieldsOf k line))
+limited-next s FileHeader line a f k t = same-limited {s = s} refl refl refl refl k
+limited-next s BatchHeaderB line a f k t =
+    record { items = zero-le; total = zero-le; accounts = zero-le; sequence = header-bounded (s .before) (s .batch) line f; fixed = zero-le; descriptions = zero-le; totals = t }
+limited-next s BatchHeaderC line a f k t =
+    record { items = zero-le; total = zero-le; accounts = zero-le; sequence = identified-bounded (s .before) (s .batch) line f; fixed = zero-le; descriptions = zero-le; totals = t }
+limited-next s FixedDescription line a f k t =
     let r = fix-room s a in
-    record { items = k .items; total = k .total; accounts = k .accounts; sequence = k .sequence; fixed = omega arith; descriptions = k .descriptions }
-limited-next s OrderingParty line a f k = same-limited {s = s} refl refl refl k
-limited-next s Transaction line a f k =
+    record { items = k .items; total = k .total; accounts = k .accounts; sequence = k .sequence; fixed = omega arith; descriptions = k .descriptions; totals = t }
+limited-next s OrderingParty line a f k t = same-limited {s = s} refl refl refl refl k
+limited-next s Transaction line a f k t =
     let r = item-room (s .before) (s .batch) line f in
-    record { items = omega arith; total = r .1; accounts = omega arith; sequence = k .sequence; fixed = k .fixed; descriptions = zero-le }
-limited-next s NamePayer line a f k = same-limited {s = s} refl refl refl k
-limited-next s CityPayer line a f k = same-limited {s = s} refl refl refl k
-limited-next s PaymentReference line a f k = same-limited {s = s} refl refl refl k
-limited-next s Description line a f k =
+    record { items = omega arith; total = r .1; accounts = omega arith; sequence = k .sequence; fixed = k .fixed; descriptions = zero-le; totals = t }
+limited-next s NamePayer line a f k t = same-limited {s = s} refl refl refl refl k
+limited-next s CityPayer line a f k t = same-limited {s = s} refl refl refl refl k
+limited-next s PaymentReference line a f k t = same-limited {s = s} refl refl refl refl k
+limited-next s Description line a f k t =
     let r = text-room s a in
-    record { items = k .items; total = k .total; accounts = k .accounts; sequence = k .sequence; fixed = k .fixed; descriptions = omega arith }
-limited-next s NameBeneficiary line a f k = same-limited {s = s} refl refl refl k
-limited-next s CityBeneficiary line a f k = same-limited {s = s} refl refl refl k
-limited-next s BatchTrailer line a f k =
-    record { items = zero-le; total = zero-le; accounts = zero-le; sequence = k .sequence; fixed = zero-le; descriptions = zero-le }
-limited-next s FileTrailer line a f k = same-limited {s = s} refl refl refl k
+    record { items = k .items; total = k .total; accounts = k .accounts; sequence = k .sequence; fixed = k .fixed; descriptions = omega arith; totals = t }
+limited-next s NameBeneficiary line a f k t = same-limited {s = s} refl refl refl refl k
+limited-next s CityBeneficiary line a f k t = same-limited {s = s} refl refl refl refl k
+limited-next s BatchTrailer line a f k t =
+    record { items = zero-le; total = zero-le; accounts = zero-le; sequence = k .sequence; fixed = zero-le; descriptions = zero-le; totals = t }
+limited-next s FileTrailer line a f k t = same-limited {s = s} refl refl refl refl k
 
-limited-first : {s : State} {xs : List ℕ} {j : Judged} → Limited s → First s xs j → Limited (j .next)
-limited-first k (beyond w) = k
-limited-first k (halted w c n z) = k
-limited-first {s} {xs} k (moved w m c a f) = same-limited {s = nextFor s m (fieldsOf m (take 50 xs))} refl refl refl (limited-next s m (take 50 xs) a f k)
+-- only a batch that is closed moves the totals
+totals-next : (s : State) (k : Kind) (x : Fields k) → isStage (nextFor s k x .stage) Closed ≡ false → nextFor s k x .totals ≡ s .totals
+totals-next s = every (λ k. (x : Fields k) → isStage (nextFor s k x .stage) Closed ≡ false → nextFor s k x .totals ≡ s .totals) same same same same same same same same same same same same (λ x c. absurd (true≢false c)) same
+  where
+    same : {A : Type 0} {B : Type 0} {t : Totals} → A → B → t ≡ t
+    same a b = refl
 
-pub limited-after : {j : Judged} (s : State) (xs : List ℕ) → j ≡ judgedFirst s xs → Limited s → Limited (j .next)
-limited-after s xs e k = subst (λ (i : Judged). Limited (i .next)) (sym e) (limited-first k (first s xs))
+-- the limits after a line, where its totals are within theirs
+pub limited-first : {s : State} {xs : List ℕ} {j : Judged} → Limited s → First s xs j → Bounded (j .next .totals) → Limited (j .next)
+limited-first k (beyond w) t = k
+limited-first k (halted w c n z) t = k
+limited-first {s} {xs} k (moved w m c a f) t = same-limited {s = nextFor s m (fieldsOf m (take 50 xs))} refl refl refl refl (limited-next s m (take 50 xs) a f k t)
+
+going-first : {s : State} {xs : List ℕ} {j : Judged} → Going s → First s xs j → Going (j .next)
+going-first g (beyond w) = g
+going-first g (halted w c n z) = g
+going-first {s} {xs} g (moved w m c a f) =
+    let k = within-limited s refl w in
+    record {
+      limited = λ h. limited-first {xs = xs} k (moved w m c a f) (bounded-facts _ h);
+      totals = λ q. ap areWithin (totals-next s m (fieldsOf m (take 50 xs)) q) ∙ bounded-test (s .totals) (k .totals);
+    }
+
+pub going-after : {j : Judged} (s : State) (xs : List ℕ) → j ≡ judgedFirst s xs → Going s → Going (j .next)
+going-after s xs e g = subst (λ (i : Judged). Going (i .next)) (sym e) (going-first g (first s xs))

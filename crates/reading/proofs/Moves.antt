@@ -15,6 +15,7 @@ use Rattle.record.specs.Read.{valuesOf}
 use Rattle.record.specs.Faults.{afterHeader}
 use Rattle.record.specs.declared.Before.{Before}
 use Rattle.record.specs.declared.Batch.{Batch}
+use Rattle.record.specs.declared.Totals.{Totals}
 use Rattle.record.specs.declared.TransactionFields.{TransactionFields}
 use Rattle.reading.specs.Step.{onward, openedBatch, nameIf, openedItem, afterText, texted, nextFor}
 use Rattle.reading.specs.declared.Stage.{Stage}
@@ -25,10 +26,10 @@ use Rattle.reading.specs.declared.State.{State}
 pub header-via : {e : Before} {g h : Group} {n m : ℕ} (p : Before) → g ≡ h → n ≡ m → e ≡ afterHeader p g n → e ≡ afterHeader p h m
 header-via p f k e = e ∙ rw (f, k)
 
-pub onward-via : {x : State} {d e : Before} {b c : Batch} {i j : OpenItem} (s : State) (p : Stage) → d ≡ e → b ≡ c → i ≡ j → x ≡ onward s p d b i → x ≡ onward s p e c j
-onward-via s p e f k h = h ∙ rw (e, f, k)
+pub onward-via : {x : State} {d e : Before} {b c : Batch} {t u : Totals} {i j : OpenItem} (s : State) (p : Stage) → d ≡ e → b ≡ c → t ≡ u → i ≡ j → x ≡ onward s p d b t i → x ≡ onward s p e c u j
+onward-via s p e f g k h = h ∙ rw (e, f, g, k)
 
-pub texted-via : {x : State} {n : Name} (s : State) (r : Bool) (d : ℕ) → n ≡ afterText (s .item .name) → x ≡ onward s (s .stage) (s .before) (s .batch) (record { name = n; reference = r; descriptions = d }) → x ≡ texted s r d
+pub texted-via : {x : State} {n : Name} (s : State) (r : Bool) (d : ℕ) → n ≡ afterText (s .item .name) → x ≡ onward s (s .stage) (s .before) (s .batch) (s .totals) (record { name = n; reference = r; descriptions = d }) → x ≡ texted s r d
 texted-via s r d e h = h ∙ rw e
 
 pub opened-made : {a : ℕ} (line : List ℕ) → a ≡ digitsOf (take 10 (drop 7 line)) .value → _≡_ {A = Batch} (record { account = a; items = 0; total = 0; accounts = 0; fixed = 0 }) (openedBatch (valuesOf BatchHeaderB line))

@@ -6,9 +6,10 @@ use Rattle.machine.proofs.Tests.{tests}
 use Rattle.format.specs.declared.Kind.{Kind}
 use Rattle.format.specs.declared.Group.{Group}
 use Rattle.format.specs.declared.Group.the-variants.{Payments, Debits}
-use Rattle.record.specs.Faults.{nothingBefore, emptyBatch}
+use Rattle.record.specs.Faults.{nothingBefore, emptyBatch, noTotals}
 use Rattle.record.specs.declared.Before.{Before}
 use Rattle.record.specs.declared.Batch.{Batch}
+use Rattle.record.specs.declared.Totals.{Totals}
 use Rattle.reading.specs.State.{noItem, startState}
 use Rattle.reading.specs.Order.{isName, textsBy, allowed, allowedBy}
 use Rattle.reading.specs.declared.Stage.the-variants.{Start}
@@ -35,5 +36,5 @@ pub allowed-via : {x : Bool} {k : Kind} (s : State) (m : Kind) → k ≡ m → x
 unfolding allowed
 allowed-via s m e h = rw e h
 
-pub started : {p : Before} {b : Batch} {i : OpenItem} → p ≡ nothingBefore → b ≡ emptyBatch → i ≡ noItem → _≡_ {A = State} (record { line = 0; stage = Start; before = p; batch = b; item = i }) startState
-started e f h = rw (e, f, h)
+pub started : {p : Before} {b : Batch} {t : Totals} {i : OpenItem} → p ≡ nothingBefore → b ≡ emptyBatch → t ≡ noTotals → i ≡ noItem → _≡_ {A = State} (record { line = 0; stage = Start; before = p; batch = b; totals = t; item = i }) startState
+started e f g h = rw (e, f, g, h)

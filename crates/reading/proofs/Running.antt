@@ -11,7 +11,7 @@ use Rattle.machine.specs.Lists.{pick}
 use Rattle.machine.proofs.Base.{drop-rest}
 use Rattle.format.specs.Cutting.{cutOf, nextLine, afterNext, linesIn}
 use Rattle.format.proofs.Cutting.{cut-bytes, next-fifty, cut-own, whole-long, lines-first, lines-none}
-use Rattle.reading.specs.State.{Limited}
+use Rattle.reading.specs.Bounds.{Going}
 use Rattle.reading.specs.Step.{refused, judgedFirst}
 use Rattle.reading.specs.Check.{judgedAfter}
 use Rattle.reading.specs.declared.State.{State}
@@ -43,8 +43,8 @@ run-none start bytes e = record { rest = rw e }
 pub run-from : {x j : Judged} (start : State) (bytes : List ℕ) → j ≡ refused start 0 0 → x ≡ judgedAfter (refused (j .next) 0 0) (linesIn bytes) → x ≡ judgedAfter (refused start 0 0) (linesIn bytes)
 run-from start bytes e h = h ∙ ap (λ (i : Judged). judgedAfter (refused (i .next) 0 0) (linesIn bytes)) e
 
-pub limited-start : {j : Judged} (start : State) → j ≡ refused start 0 0 → Limited start → Limited (j .next)
-limited-start start e k = rw e k
+pub going-start : {j : Judged} (start : State) → j ≡ refused start 0 0 → Going start → Going (j .next)
+going-start start e g = rw e g
 
 pub run-all : {start : State} {bytes : List ℕ} {last : Judged} {at : ℕ} → Running start bytes last at → length bytes ≤ at → last ≡ judgedAfter (refused start 0 0) (linesIn bytes)
 unfolding judgedAfter
@@ -84,4 +84,4 @@ module _ {start : State} {bytes : List ℕ} {last : Judged} {at : ℕ} {j : Judg
         let d : afterNext (drop at bytes) ≡ drop (at + j .bytes) bytes = drop-drop (cutOf (drop at bytes) .bytes) at bytes ∙ ap (λ n. drop (at + n) bytes) (sym took) in
         record { rest = ap (λ ys. judgedAfter j (linesIn ys)) (sym d) ∙ (rw (eq-eqb _ _ z) at one) }
 
-pub ruleset runs = (run-none, run-from, limited-start, run-all, run-stop, run-more)
+pub ruleset runs = (run-none, run-from, going-start, run-all, run-stop, run-more)

@@ -11,7 +11,7 @@ use Rattle.format.specs.Answers.{refusal, acceptance}
 use Rattle.format.specs.Cutting.{nextLine, afterNext, linesIn}
 use Rattle.format.specs.declared.Kind.{Kind}
 use Rattle.format.proofs.Cutting.{Lined, no-line, one-line, lined}
-use Rattle.reading.specs.State.{startState, isLimited, within}
+use Rattle.reading.specs.State.{startState, areWithin, isLimited, within}
 use Rattle.reading.specs.Step.{refused, isDone, judgedFirst, refusalBy, endedAt}
 use Rattle.reading.specs.Check.{judgedAfter, judgedLines, answerBy, restOf, checkOf}
 use Rattle.reading.specs.declared.State.{State}
@@ -75,7 +75,7 @@ abbrev pub judged : List ℕ → Judged
 judged file = judgedAfter (refused startState 0 0) (linesIn file)
 
 pub ended-file : (file : List ℕ) → checkOf file .number ≡ 0 → Ended (judged file)
-unfolding checkOf restOf judgedLines within isLimited pick
+unfolding checkOf restOf judgedLines within isLimited areWithin pick
 ended-file file z = ends (judged file) z
 
 pub runs-file : (file : List ℕ) → checkOf file .number ≡ 0 → Runs startState file (linesIn file) (judged file .next)

@@ -7,10 +7,12 @@ use Rattle.format.specs.Answers.{accepted, beyondLimits}
 use Rattle.format.specs.Cutting.{linesIn}
 use Rattle.format.specs.declared.Answer.{Answer}
 use Rattle.record.specs.declared.Record.{Record}
+use Rattle.record.specs.declared.Totals.{Totals}
 use Rattle.reading.specs.State.{startState, within}
 use Rattle.reading.specs.Step.{refused, judgedFirst, refusalBy, endedAt, stepAt}
 use Rattle.reading.specs.declared.State.{State}
 use Rattle.reading.specs.declared.Judged.{Judged}
+use Rattle.reading.specs.declared.FileRead.{FileRead}
 
 -- lines one after the other up to the first that is refused, after j
 unfoldable pub judgedAfter : Judged → List (List ℕ) → Judged
@@ -32,6 +34,20 @@ restOf s xs = answerBy (judgedLines s xs)
 
 unfoldable pub checkOf : List ℕ → Answer
 checkOf file = restOf startState file
+
+-- the totals after them, or before the line that is refused
+unfoldable pub totalsAfter : State → List ℕ → Totals
+totalsAfter s xs = judgedLines s xs .next .totals
+
+unfoldable pub totalsOf : List ℕ → Totals
+totalsOf file = totalsAfter startState file
+
+-- both
+abbrev pub readAfter : State → List ℕ → FileRead
+readAfter s xs = record { answer = restOf s xs; totals = totalsAfter s xs }
+
+abbrev pub readOf : List ℕ → FileRead
+readOf file = record { answer = checkOf file; totals = totalsOf file }
 
 -- the records of some lines from a state on, each with its text, up to the first line that is refused
 unfoldable pub recordsAfter : State → List (List ℕ) → List (Record × List ℕ)

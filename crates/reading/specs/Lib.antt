@@ -1,5 +1,5 @@
 pub mod State
 pub mod Order
-pub mod Bounds
 pub mod Step
+pub mod Bounds
 pub mod Check

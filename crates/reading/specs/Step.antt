@@ -22,6 +22,7 @@ use Rattle.record.specs.Faults.{afterHeader, emptyBatch, fieldsOf, faultOf}
 use Rattle.record.specs.Read.{transactionFor, recordFor, textFor, noText}
 use Rattle.record.specs.declared.Before.{Before}
 use Rattle.record.specs.declared.Batch.{Batch}
+use Rattle.record.specs.declared.Totals.{Totals}
 use Rattle.record.specs.declared.ClosedBatch.{ClosedBatch}
 use Rattle.record.specs.declared.Fault.{Fault}
 use Rattle.record.specs.declared.TransactionFields.{TransactionFields}
@@ -40,23 +41,23 @@ use Rattle.reading.specs.declared.LineRead.{LineRead}
 -- ## The state after a record
 
 -- one line more, and all that a record can change
-abbrev pub onward : State → Stage → Before → Batch → OpenItem → State
-onward s p e b i = record { line = s .line + 1; before = e; batch = b; stage = p; item = i }
+abbrev pub onward : State → Stage → Before → Batch → Totals → OpenItem → State
+onward s p e b t i = record { line = s .line + 1; before = e; batch = b; totals = t; stage = p; item = i }
 
 abbrev pub moved : State → Stage → State
-moved s p = onward s p (s .before) (s .batch) (s .item)
+moved s p = onward s p (s .before) (s .batch) (s .totals) (s .item)
 
 abbrev pub openedBatch : Fields BatchHeaderB → Batch
 openedBatch x = record { account = orderingAccount x; items = 0; total = 0; accounts = 0; fixed = 0 }
 
 abbrev pub opened : State → Fields BatchHeaderB → State
-opened s x = onward s Opened (afterHeader (s .before) (groupOf (group x)) (sequence x)) (openedBatch x) noItem
+opened s x = onward s Opened (afterHeader (s .before) (groupOf (group x)) (sequence x)) (openedBatch x) (s .totals) noItem
 
 abbrev pub fixedOne : Batch → Batch
 fixedOne b = record { account = b .account; items = b .items; total = b .total; accounts = b .accounts; fixed = b .fixed + 1 }
 
 abbrev pub withFixed : State → State
-withFixed s = onward s (s .stage) (s .before) (fixedOne (s .batch)) (s .item)
+withFixed s = onward s (s .stage) (s .before) (fixedOne (s .batch)) (s .totals) (s .item)
 
 -- a batch with one item more: 'sum of all payers and beneficiaries, rightmost ten digits'
 abbrev pub paidBatch : Batch → TransactionFields → Batch
@@ -77,10 +78,10 @@ abbrev pub openedItem : TransactionFields → OpenItem
 openedItem t = record { name = nameIf (isUncheckedType (t .kind)); reference = false; descriptions = 0 }
 
 abbrev pub paid : State → TransactionFields → State
-paid s t = onward s Item (s .before) (paidBatch (s .batch) t) (openedItem t)
+paid s t = onward s Item (s .before) (paidBatch (s .batch) t) (s .totals) (openedItem t)
 
 abbrev pub named : State → Name → State
-named s n = onward s (s .stage) (s .before) (s .batch) (record { name = n; reference = s .item .reference; descriptions = s .item .descriptions })
+named s n = onward s (s .stage) (s .before) (s .batch) (s .totals) (record { name = n; reference = s .item .reference; descriptions = s .item .descriptions })
 
 -- after a reference or a description no city follows the name
 abbrev pub afterText : Name → Name
@@ -90,11 +91,15 @@ afterText Read = Past
 afterText Past = Past
 
 abbrev pub texted : State → Bool → ℕ → State
-texted s r n = onward s (s .stage) (s .before) (s .batch) (record { name = afterText (s .item .name); reference = r; descriptions = n })
+texted s r n = onward s (s .stage) (s .before) (s .batch) (s .totals) (record { name = afterText (s .item .name); reference = r; descriptions = n })
 
--- a closed batch leaves its group and number
+-- 'the total amount and the number of items of all closed batches' (02), with one more
+abbrev pub withBatch : Totals → Batch → Totals
+withBatch t b = record { items = t .items + b .items; amount = t .amount + b .total }
+
+-- a closed batch leaves its group and number, and its items and amount in the totals
 abbrev pub closed : State → State
-closed s = onward s Closed (afterHeader (s .before) (s .before .group) (s .before .sequence)) emptyBatch noItem
+closed s = onward s Closed (afterHeader (s .before) (s .before .group) (s .before .sequence)) emptyBatch (withBatch (s .totals) (s .batch)) noItem
 
 -- the batch that a trailer closes, as the state before the trailer has it. (Its items, total and account sum are those of a trailer that is accepted: `trailer-says` in file/proofs/Faults.antt.)
 abbrev pub closing : State → ClosedBatch
@@ -149,7 +154,7 @@ abbrev pub beforeEnding : EndingSoFar → Before → Before
 beforeEnding e p = record { sequence = p .sequence; group = p .group; known = p .known; ending = e }
 
 abbrev pub withEnding : EndingSoFar → State → State
-withEnding e s = record { line = s .line; before = beforeEnding e (s .before); batch = s .batch; stage = s .stage; item = s .item }
+withEnding e s = record { line = s .line; before = beforeEnding e (s .before); batch = s .batch; totals = s .totals; stage = s .stage; item = s .item }
 
 -- what is taken of bytes that are cut so: a line that is accepted takes its bytes, and fixes the end
 abbrev pub takenWith : Cut → Judged → Judged

@@ -5,12 +5,14 @@ ghost use mathlib.Core.Bool.{false};
 ghost use Prim.Native.Nat.{_≤_};
 ghost use Rattle.format.specs.Cutting.{isOpen, linesIn};
 ghost use Rattle.format.specs.declared.Kind.the-variants.{Transaction};
-ghost use Rattle.reading.specs.State.{Limited, maxLine, isLimited, within};
+ghost use Rattle.reading.specs.State.{Limited, maxLine, areWithin, isLimited, within};
+ghost use Rattle.reading.specs.Bounds.{Going, overBy, haltAt};
 ghost use Rattle.record.specs.Kinds.{isTransaction};
 ghost use Rattle.reading.specs.Step.{refused, judgedAs, judgedKind, judgedLine, withEnding, withCut, judgedFirst};
 ghost use Rattle.reading.specs.Check.{judgedAfter, judgedLines};
 use crate::Judged;
 use crate::OpenItem;
+use crate::Stage;
 use crate::State;
 use field::bytes::part;
 use format::Code;
@@ -20,6 +22,7 @@ use format::Kind;
 use format::cut_of;
 use record::Batch;
 use record::Before;
+use record::Totals;
 use record::faults::fault_in;
 use record::faults::item::maxima_fault;
 use record::faults::item::transaction_in;
@@ -70,10 +73,12 @@ impl State {
             reference: open.reference,
             descriptions: open.descriptions,
         };
+        let totals = self.totals;
         State {
             line: self.line,
             before,
             batch,
+            totals,
             stage,
             item,
         }
@@ -181,16 +186,36 @@ impl State {
         so_far.is_open(ending)
     }
 
+    // What stops a run before its next line: 24, 11, or nothing. Totals are looked at after a batch alone: nothing else
+    // moves them.
+    fn halt(self) -> u8
+        requires { ⌜ Going self ⌝ }
+        ensures { λ r. ⌜ r ≡ haltAt self ⌝ }
+    {
+        let stage = self.stage;
+        let totals = self.totals;
+        if State::MAX_LINE < self.line {
+            return format::BEYOND_LIMITS;
+        }
+        match stage {
+            Stage::Start => 0,
+            Stage::Headed => 0,
+            Stage::Opened => 0,
+            Stage::Ordered => 0,
+            Stage::Item => 0,
+            Stage::Closed => over(totals),
+            Stage::Done => format::AFTER_TRAILER,
+        }
+    }
+
     // The first line of what remains, of which there is a byte at least.
     fn judge_first(self, rest: &[u8]) -> Judged
-        requires { ⌜ Limited self ⌝ }
+        requires { ⌜ Going self ⌝ }
         ensures { λ r. ⌜ r ≡ judgedFirst self (now (rest .entry)) ⌝ }
     {
-        if State::MAX_LINE < self.line {
-            return self.refused(format::BEYOND_LIMITS, 0);
-        }
-        if self.is_done() {
-            return self.refused(format::AFTER_TRAILER, 0);
+        let number = self.halt();
+        if number != 0 {
+            return self.refused(number, 0);
         }
         let cut = cut_of(rest);
         if self.may_follow(cut) {
@@ -230,10 +255,12 @@ impl State {
         let batch = self.batch;
         let stage = self.stage;
         let item = self.item;
+        let totals = self.totals;
         State {
             line: self.line,
             before,
             batch,
+            totals,
             stage,
             item,
         }
@@ -263,12 +290,27 @@ impl Judged {
 
     // The line after one that was accepted.
     fn then(self, rest: &[u8]) -> Judged
-        requires { ⌜ Limited (self .next) ⌝ }
+        requires { ⌜ Going (self .next) ⌝ }
         ensures { λ r. ⌜ r ≡ judgedFirst (self .next) (now (rest .entry)) ⌝ }
     {
         let state = self.next;
         state.judge_first(rest)
     }
+}
+
+fn are_within(t: Totals) -> bool
+    ensures { λ r. ⌜ r ≡ areWithin t ⌝ }
+{
+    (t.items <= Totals::MAX_ITEMS) & (t.amount <= Totals::MAX_AMOUNT)
+}
+
+fn over(t: Totals) -> u8
+    ensures { λ r. ⌜ r ≡ overBy t ⌝ }
+{
+    if are_within(t) {
+        return 0;
+    }
+    format::BEYOND_LIMITS
 }
 
 // The limits of a state but for its line number.
@@ -278,16 +320,18 @@ fn is_limited(s: State) -> bool
     let p = s.before;
     let b = s.batch;
     let i = s.item;
+    let t = s.totals;
     (b.items <= Batch::MAX_ITEMS)
         & ((b.total <= Batch::MAX_TOTAL)
             & ((b.accounts <= format::MAX_ACCOUNT)
                 & ((p.sequence <= Batch::MAX_SEQUENCE)
                     & ((b.fixed <= Batch::MAX_FIXED)
-                        & ((i.descriptions as u64) <= format::MAX_DESCRIPTIONS)))))
+                        & (((i.descriptions as u64) <= format::MAX_DESCRIPTIONS)
+                            & are_within(t))))))
 }
 
 fn run(start: State, bytes: &[u8]) -> Judged
-    requires { ⌜ Limited start ⌝ }
+    requires { ⌜ Going start ⌝ }
     ensures { λ r. ⌜ r ≡ judgedAfter (refused start 0 0) (linesIn (now (bytes .entry))) ⌝ }
 {
     let mut last = start.refused(0, 0);

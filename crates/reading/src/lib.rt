@@ -6,6 +6,7 @@ use format::Code;
 use record::Batch;
 use record::Before;
 use record::Record;
+use record::Totals;
 
 mod judge;
 mod line;
@@ -40,12 +41,13 @@ pub struct OpenItem {
     pub descriptions: u8,
 }
 
-// A file so far: the lines read, what crosses batches, the batch, the stage, and the open item. (Numbers first, then
-// what takes a byte: gaps between fields are copied with them, line by line.)
+// A file so far: the lines read, what crosses batches, the batch, what the closed batches come to, the stage, and the
+// open item. (Numbers first, then what takes a byte: gaps between fields are copied with them, line by line.)
 pub struct State {
     pub line: u64,
     pub before: Before,
     pub batch: Batch,
+    pub totals: Totals,
     pub stage: Stage,
     pub item: OpenItem,
 }
@@ -70,6 +72,13 @@ pub struct LineRead {
     pub text: [u8; 35],
 }
 
+// What a whole file is answered, and what its closed batches come to: all of them, or those before the line that is
+// refused.
+pub struct FileRead {
+    pub answer: Answer,
+    pub totals: Totals,
+}
+
 fn no_item() -> OpenItem
     ensures { λ r. ⌜ r ≡ noItem ⌝ }
 {
@@ -90,11 +99,13 @@ impl State {
     {
         let before = Before::nothing();
         let batch = Batch::empty();
+        let totals = Totals::zero();
         let item = no_item();
         State {
             line: 0,
             before,
             batch,
+            totals,
             stage: Stage::Start,
             item,
         }

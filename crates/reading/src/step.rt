@@ -6,9 +6,10 @@ ghost use Rattle.format.specs.Rules.{maxFixed};
 ghost use Rattle.record.specs.Kinds.{isTransaction};
 ghost use Rattle.record.specs.Read.{valuesOf};
 ghost use Rattle.format.specs.declared.Kind.the-variants.{BatchHeaderB};
-ghost use Rattle.reading.specs.State.{Limited, maxLine};
+ghost use Rattle.reading.specs.State.{Bounded, Limited, maxLine};
 ghost use Rattle.reading.specs.Step.{onward, moved, openedBatch, opened, fixedOne, withFixed, paidBatch, nameIf};
-ghost use Rattle.reading.specs.Step.{openedItem, paid, named, afterText, texted, closed, closing, nextFor};
+ghost use Rattle.reading.specs.Step.{openedItem, paid, named, afterText, texted, withBatch, closed, closing};
+ghost use Rattle.reading.specs.Step.{nextFor};
 ghost use Rattle.reading.specs.Bounds.{Roomy, Small};
 use crate::Name;
 use crate::OpenItem;
@@ -19,6 +20,7 @@ use format::Kind;
 use record::Batch;
 use record::Before;
 use record::ClosedBatch;
+use record::Totals;
 use record::TransactionFields;
 use record::read::value_at;
 use record::types::group_in;
@@ -63,6 +65,17 @@ fn paid_batch(b: Batch, t: TransactionFields) -> Batch
     }
 }
 
+fn with_batch(t: Totals, b: Batch) -> Totals
+    requires totals { ⌜ Bounded t ⌝ }
+    requires batch { ⌜ Roomy b ⌝ }
+    ensures { λ r. ⌜ r ≡ withBatch t b ⌝ }
+{
+    Totals {
+        items: t.items + b.items,
+        amount: t.amount + b.total,
+    }
+}
+
 fn name_if(due: bool) -> Name
     ensures { λ r. ⌜ r ≡ nameIf due ⌝ }
 {
@@ -94,14 +107,22 @@ fn after_text(n: Name) -> Name
 
 impl State {
     // One line more: all that a record can change.
-    fn onward(self, stage: Stage, before: Before, batch: Batch, item: OpenItem) -> State
+    fn onward(
+        self,
+        stage: Stage,
+        before: Before,
+        batch: Batch,
+        totals: Totals,
+        item: OpenItem,
+    ) -> State
         requires { ⌜ self .line ≤ maxLine ⌝ }
-        ensures { λ r. ⌜ r ≡ onward self stage before batch item ⌝ }
+        ensures { λ r. ⌜ r ≡ onward self stage before batch totals item ⌝ }
     {
         State {
             line: self.line + 1,
             before,
             batch,
+            totals,
             stage,
             item,
         }
@@ -114,7 +135,8 @@ impl State {
         let before = self.before;
         let batch = self.batch;
         let item = self.item;
-        self.onward(stage, before, batch, item)
+        let totals = self.totals;
+        self.onward(stage, before, batch, totals, item)
     }
 
     fn opened(self, line: &[u8]) -> State
@@ -126,7 +148,8 @@ impl State {
         let before = last.after_header(group, value_at(line, 17, 4));
         let batch = opened_batch(line);
         let item = no_item();
-        self.onward(Stage::Opened, before, batch, item)
+        let totals = self.totals;
+        self.onward(Stage::Opened, before, batch, totals, item)
     }
 
     fn with_fixed(self) -> State
@@ -139,7 +162,8 @@ impl State {
         let b = self.batch;
         let item = self.item;
         let batch = fixed_one(b);
-        self.onward(stage, before, batch, item)
+        let totals = self.totals;
+        self.onward(stage, before, batch, totals, item)
     }
 
     pub(crate) fn paid(self, t: TransactionFields) -> State
@@ -152,17 +176,19 @@ impl State {
         let b = self.batch;
         let batch = paid_batch(b, t);
         let item = opened_item(t);
-        self.onward(Stage::Item, before, batch, item)
+        let totals = self.totals;
+        self.onward(Stage::Item, before, batch, totals, item)
     }
 
     fn with_item(self, item: OpenItem) -> State
         requires { ⌜ self .line ≤ maxLine ⌝ }
-        ensures { λ r. ⌜ r ≡ onward self (self .stage) (self .before) (self .batch) item ⌝ }
+        ensures { λ r. ⌜ r ≡ onward self (self .stage) (self .before) (self .batch) (self .totals) item ⌝ }
     {
         let stage = self.stage;
         let before = self.before;
         let batch = self.batch;
-        self.onward(stage, before, batch, item)
+        let totals = self.totals;
+        self.onward(stage, before, batch, totals, item)
     }
 
     fn named(self, name: Name) -> State
@@ -194,15 +220,19 @@ impl State {
     }
 
     fn closed(self) -> State
-        requires { ⌜ self .line ≤ maxLine ⌝ }
+        requires line { ⌜ self .line ≤ maxLine ⌝ }
+        requires limited { ⌜ Limited self ⌝ }
         ensures { λ r. ⌜ r ≡ closed self ⌝ }
     {
         let last = self.before;
         let group = last.group;
         let before = last.after_header(group, last.sequence);
+        let b = self.batch;
+        let t = self.totals;
+        let totals = with_batch(t, b);
         let batch = Batch::empty();
         let item = no_item();
-        self.onward(Stage::Closed, before, batch, item)
+        self.onward(Stage::Closed, before, batch, totals, item)
     }
 
     // The batch that a trailer closes, as the state before the trailer has it.

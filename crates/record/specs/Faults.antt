@@ -18,6 +18,7 @@ use Rattle.record.specs.Kinds.{isTransaction}
 use Rattle.record.specs.declared.Fault.{Fault}
 use Rattle.record.specs.declared.Before.{Before}
 use Rattle.record.specs.declared.Batch.{Batch}
+use Rattle.record.specs.declared.Totals.{Totals}
 
 abbrev pub faultAt : ℕ → ℕ → Fault
 faultAt column number = record { number = number; column = column }
@@ -37,6 +38,9 @@ afterHeader p g n = record { sequence = n; group = g; known = true; ending = p .
 
 abbrev pub emptyBatch : Batch
 emptyBatch = record { account = 0; items = 0; total = 0; accounts = 0; fixed = 0 }
+
+abbrev pub noTotals : Totals
+noTotals = record { items = 0; amount = 0 }
 
 -- the fields of a line
 abbrev pub fieldsOf : (k : Kind) → List ℕ → Fields k

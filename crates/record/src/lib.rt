@@ -1,6 +1,6 @@
 // Records of a line, without the reading state: their kind, what is wrong in them from the left, and their fields.
 ghost use mathlib.Core.Path.{_≡_};
-ghost use Rattle.record.specs.Faults.{nothingBefore, afterHeader, emptyBatch};
+ghost use Rattle.record.specs.Faults.{nothingBefore, afterHeader, emptyBatch, noTotals};
 use format::EndingSoFar;
 use format::Group;
 use format::TransactionType;
@@ -79,6 +79,28 @@ impl Batch {
             total: 0,
             accounts: 0,
             fixed: 0,
+        }
+    }
+}
+
+// What the closed batches of a file come to: how many items, and their amounts in cents.
+pub struct Totals {
+    pub items: u64,
+    pub amount: u64,
+}
+
+impl Totals {
+    pub const MAX_ITEMS: u64 = 999900000;
+
+    pub const MAX_AMOUNT: u64 = 45373483806849099;
+
+    // Where no batch is closed.
+    pub fn zero() -> Totals
+        ensures { λ r. ⌜ r ≡ noTotals ⌝ }
+    {
+        Totals {
+            items: 0,
+            amount: 0,
         }
     }
 }

@@ -33,13 +33,14 @@ use Rattle.record.specs.Read.{transactionRecord, recordFor, textFor}
 use Rattle.record.specs.declared.Before.{Before}
 use Rattle.record.specs.declared.Batch.{Batch}
 use Rattle.record.proofs.ItemFaults.{type-known}
-use Rattle.reading.specs.State.{startState, isLimited, within}
+use Rattle.reading.specs.State.{startState, areWithin, isLimited, within}
 use Rattle.reading.specs.Step.{refused, isDone, stepAt}
-use Rattle.reading.specs.Check.{judgedAfter, judgedLines, checkOf, restOf}
+use Rattle.reading.specs.Check.{judgedAfter, judgedLines, checkOf, readOf, restOf}
 use Rattle.reading.specs.declared.Name.the-variants.{Unwanted}
 use Rattle.reading.specs.declared.State.{State}
 use Rattle.reading.specs.declared.Judged.{Judged}
 use Rattle.reading.specs.declared.LineRead.{LineRead}
+use Rattle.reading.specs.declared.FileRead.{FileRead}
 use Rattle.reading.proofs.Running.{goingOn}
 use Rattle.reading.proofs.Runs.{nextBy, Runs, no-more, line, Ended, ended-zero, judged, ended-file, runs-file}
 use Rattle.reading.proofs.Endings.{endedWith, fifty-first, is-ended}
@@ -154,7 +155,7 @@ ended-behind j i e p =
     }
 
 pub accepted-again : (file : List ℕ) → checkOf file .number ≡ 0 → checkOf (withoutCities file) .number ≡ 0
-unfolding checkOf restOf judgedLines within isLimited pick withoutCities
+unfolding checkOf restOf judgedLines within isLimited areWithin pick withoutCities
 accepted-again file z =
     let p = follows (runs-file file z) (refused startState 0 0) (record { number = refl; next = start-behind }) in
     ended-zero (judged (keptOf (linesIn file))) (ended-behind (judged file) (judged (keptOf (linesIn file))) (ended-file file z) p)
@@ -196,15 +197,15 @@ has-entry p b k l f =
     every (λ k. faultOf p b k l .number ≡ 0 → isSome (entryOf (recordFor k (fieldsOf k l))) ≡ not (isCityKind k)) (λ f. refl) (λ f. refl) (λ f. refl) (λ f. refl) (λ f. refl)
     (λ f. let x = fieldsOf Transaction l in item-entry (typeOf (type x)) (amount x) (payer x) (beneficiary x) (type-known p b l f)) (λ f. refl) (λ f. refl) (λ f. refl) (λ f. refl) (λ f. refl) (λ f. refl) (λ f. refl) (λ f. refl) k f
 
-abbrev readOf : State → (k : Kind) → List ℕ → LineRead
-readOf s k xs = readAs s (cutOf xs) k (fieldsOf k (take 50 xs))
+abbrev readLine : State → (k : Kind) → List ℕ → LineRead
+readLine s k xs = readAs s (cutOf xs) k (fieldsOf k (take 50 xs))
 
 wrote : (w : State) (e : Entry) (t : List ℕ) (r : LineRead) → stepAt w (lineFor w e t) ≡ r → r .answer .number ≡ 0 → writtenOf w e t 52 ≡ answered (r .answer) (r .next)
 unfolding writtenOf pick
 wrote w e t r h z = rw (h, eq-eqb (r .answer .number) 0 z)
 
 module _ {s : State} {x : ℕ} {xs : List ℕ} (tk : Taken s (x ∷ xs)) (w : State) (b : Behind s w) (rest : List ℕ) (f : (u : State) → Behind (nextBy s (tk .kind) (x ∷ xs)) u → Rewrites (nextBy s (tk .kind) (x ∷ xs)) u (afterNext (x ∷ xs)) rest) where
-  read-s : stepAt s (x ∷ xs) ≡ readOf s (tk .kind) (x ∷ xs)
+  read-s : stepAt s (x ∷ xs) ≡ readLine s (tk .kind) (x ∷ xs)
   read-s = read-taken s (x ∷ xs) (tk .kind) (omega arith) (tk .is)
 
   after : (u : State) → Behind (nextBy s (tk .kind) (x ∷ xs)) u → Rewrites (stepAt s (x ∷ xs) .next) u (afterNext (x ∷ xs)) rest
@@ -217,7 +218,7 @@ module _ {s : State} {x : ℕ} {xs : List ℕ} (tk : Taken s (x ∷ xs)) (w : St
     not-empty : 0 < length again
     not-empty = omega (arith, is-ended tk crlf .long)
 
-    read-w : stepAt w again ≡ readOf w (tk .kind) again
+    read-w : stepAt w again ≡ readLine w (tk .kind) again
     read-w = read-taken w again (tk .kind) not-empty (taken-too b tk c)
 
     same-fields : fieldsOf (tk .kind) (take 50 again) ≡ fieldsOf (tk .kind) (take 50 (x ∷ xs))
@@ -232,8 +233,8 @@ module _ {s : State} {x : ℕ} {xs : List ℕ} (tk : Taken s (x ∷ xs)) (w : St
         ∙ written-again w again not-empty (ap (λ (r : LineRead). r .answer .number) read-w) (entry .0) (ap (λ (r : LineRead). entryOf (r .read)) read-w ∙ ap (λ y. entryOf (recordFor (tk .kind) y)) same-fields ∙ entry .1)
         ∙ ap (lineFor w (entry .0)) (ap (λ (r : LineRead). r .text) read-w ∙ ap (textFor (tk .kind)) same-fields ∙ sym (ap (λ (r : LineRead). r .text) read-s))
 
-    writer-is : writtenOf w (entry .0) (stepAt s (x ∷ xs) .text) 52 ≡ answered (readOf w (tk .kind) again .answer) (readOf w (tk .kind) again .next)
-    writer-is = wrote w (entry .0) (stepAt s (x ∷ xs) .text) (readOf w (tk .kind) again) (ap (stepAt w) (sym line-is) ∙ read-w) refl
+    writer-is : writtenOf w (entry .0) (stepAt s (x ∷ xs) .text) 52 ≡ answered (readLine w (tk .kind) again .answer) (readLine w (tk .kind) again .next)
+    writer-is = wrote w (entry .0) (stepAt s (x ∷ xs) .text) (readLine w (tk .kind) again) (ap (stepAt w) (sym line-is) ∙ read-w) refl
 
     kept-written : Rewrites s w (x ∷ xs) (again ++ rest)
     kept-written =
@@ -271,17 +272,17 @@ all-again file z =
       by-writer = by-writer file z;
     }
 
-module _ {a : Answer} (file o : List ℕ) (w : Rewritten) (e : a ≡ checkOf file) where
-  pub promise-none : (a .number ≡ 0 → ⊥) → w .answer ≡ a → Promised file w o
+module _ {r : FileRead} (file o : List ℕ) (w : Rewritten) (e : r ≡ readOf file) where
+  pub promise-none : (r .answer .number ≡ 0 → ⊥) → w .answer ≡ r .answer → Promised file w o
   unfolding Promised
   promise-none z h = λ q. absurd (z (ap (λ (y : Answer). y .number) (sym h) ∙ q))
 
-  pub promise-met : {m : ℕ} (out : List ℕ) → a .number ≡ 0 → m ≡ keptCount (linesIn file) → w .written ≡ m * 52 → o ≡ pasted out 0 (withoutCities file) → Promised file w o
+  pub promise-met : {m : ℕ} (out : List ℕ) → r .answer .number ≡ 0 → m ≡ keptCount (linesIn file) → w .written ≡ m * 52 → o ≡ pasted out 0 (withoutCities file) → Promised file w o
   unfolding Promised
   promise-met out z k i h = λ q.
-      let n : w .written ≡ length (withoutCities file) = i ∙ kept-size file (ap (λ (y : Answer). y .number) (sym e) ∙ z) k in
+      let n : w .written ≡ length (withoutCities file) = i ∙ kept-size file (ap (λ (x : FileRead). x .answer .number) (sym e) ∙ z) k in
       let b : take (w .written) o ≡ withoutCities file = ap₂ take n (h ∙ pasted-front out (withoutCities file)) ∙ take-at (withoutCities file) (drop (length (withoutCities file)) out) (length (withoutCities file)) refl in
-      subst (Again file) (sym b) (all-again file (ap (λ (y : Answer). y .number) (sym e) ∙ z))
+      subst (Again file) (sym b) (all-again file (ap (λ (x : FileRead). x .answer .number) (sym e) ∙ z))
 
 pub promise-small : {line : ℕ} (file o : List ℕ) (w : Rewritten) → w .answer ≡ refusal 12 line 0 → Promised file w o
 unfolding Promised

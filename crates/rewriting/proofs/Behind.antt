@@ -53,6 +53,7 @@ behind s l n y =
       stage = s .stage;
       before = beforeEnding y (s .before);
       batch = s .batch;
+      totals = s .totals;
       item = record { name = n; reference = s .item .reference; descriptions = s .item .descriptions };
     }
 

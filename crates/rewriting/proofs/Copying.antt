@@ -14,7 +14,8 @@ use Rattle.format.specs.declared.Answer.{Answer}
 use Rattle.format.proofs.Cutting.{next-fifty, whole-fifty, line-inside, lines-at, lines-none}
 use Rattle.field.proofs.Putting.{put-both, put-fitting, put-long, length-pasted, pasted-both}
 use Rattle.record.specs.Kinds.{isCity}
-use Rattle.reading.specs.Check.{checkOf}
+use Rattle.reading.specs.Check.{checkOf, readOf}
+use Rattle.reading.specs.declared.FileRead.{FileRead}
 use Rattle.reading.specs.declared.State.{State}
 use Rattle.reading.proofs.Runs.{Runs, no-more, line, runs-file}
 use Rattle.writer.specs.Encoding.{lineEnd}
@@ -161,44 +162,44 @@ kept-size file z e = ap (λ m. m * 52) e ∙ sym (kept-long (runs-file file z))
 
 -- ## The answer
 
-module _ {a : Answer} (file : List ℕ) (room : ℕ) (e : a ≡ checkOf file) where
-  pub by-refusal : {w : Rewritten} → (a .number ≡ 0 → ⊥) → w ≡ answered a 0 → w ≡ rewrittenOf file room
+module _ {r : FileRead} (file : List ℕ) (room : ℕ) (e : r ≡ readOf file) where
+  pub by-refusal : {w : Rewritten} → (r .answer .number ≡ 0 → ⊥) → w ≡ answered (r .answer) 0 → w ≡ rewrittenOf file room
   unfolding rewrittenOf pick
-  by-refusal z h = h ∙ sym (ap (λ b. rewrittenBy b (length (withoutCities file)) room) (sym e) ∙ rw (ne-eqb _ _ z))
+  by-refusal z h = h ∙ sym (ap (λ (x : FileRead). rewrittenBy (x .answer) (length (withoutCities file)) room) (sym e) ∙ rw (ne-eqb _ _ z))
 
-  module _ {n : ℕ} (z : a .number ≡ 0) (f : n ≡ keptCount (linesIn file)) where
+  module _ {n : ℕ} (z : r .answer .number ≡ 0) (f : n ≡ keptCount (linesIn file)) where
     size : n * 52 ≡ length (withoutCities file)
-    size = kept-size file (ap (λ (b : Answer). b .number) (sym e) ∙ z) f
+    size = kept-size file (ap (λ (x : FileRead). x .answer .number) (sym e) ∙ z) f
 
-    pub by-room : {w : Rewritten} {b : Answer} → room / 52 < n → b ≡ refusal 12 (a .line) 0 → w ≡ answered b 0 → w ≡ rewrittenOf file room
+    pub by-room : {w : Rewritten} {b : Answer} → room / 52 < n → b ≡ refusal 12 (r .answer .line) 0 → w ≡ answered b 0 → w ≡ rewrittenOf file room
     unfolding rewrittenOf pick
     by-room l g h =
         let m : room < n * 52 = omega arith in
-        h ∙ ap (λ b. answered b 0) g ∙ sym (ap₂ (λ b m. rewrittenBy b m room) (sym e) (sym size) ∙ rw (eq-eqb _ _ z, lt-leb (n * 52) room m))
+        h ∙ ap (λ b. answered b 0) g ∙ sym (ap₂ (λ (x : FileRead) m. rewrittenBy (x .answer) m room) (sym e) (sym size) ∙ rw (eq-eqb _ _ z, lt-leb (n * 52) room m))
 
-    pub by-acceptance : {w : Rewritten} → n ≤ room / 52 → w ≡ answered a (n * 52) → w ≡ rewrittenOf file room
+    pub by-acceptance : {w : Rewritten} → n ≤ room / 52 → w ≡ answered (r .answer) (n * 52) → w ≡ rewrittenOf file room
     unfolding rewrittenOf pick
     by-acceptance l h =
         let m : n * 52 ≤ room = omega arith in
-        h ∙ sym (ap₂ (λ b m. rewrittenBy b m room) (sym e) (sym size) ∙ rw (eq-eqb _ _ z, le-leb (n * 52) room m))
+        h ∙ sym (ap₂ (λ (x : FileRead) m. rewrittenBy (x .answer) m room) (sym e) (sym size) ∙ rw (eq-eqb _ _ z, le-leb (n * 52) room m))
 
     pub copy-asked : n ≤ room / 52 → length (withoutCities file) ≤ room
     copy-asked l = omega (arith, size)
 
-module _ {a : Answer} {o : List ℕ} (file out : List ℕ) (e : a ≡ checkOf file) where
-  pub room-refused : (a .number ≡ 0 → ⊥) → o ≡ out → o ≡ roomAfter file out
+module _ {r : FileRead} {o : List ℕ} (file out : List ℕ) (e : r ≡ readOf file) where
+  pub room-refused : (r .answer .number ≡ 0 → ⊥) → o ≡ out → o ≡ roomAfter file out
   unfolding roomAfter pick
-  room-refused z h = h ∙ sym (ap (λ b. roomBy b (withoutCities file) out) (sym e) ∙ rw (ne-eqb _ _ z))
+  room-refused z h = h ∙ sym (ap (λ (x : FileRead). roomBy (x .answer) (withoutCities file) out) (sym e) ∙ rw (ne-eqb _ _ z))
 
   -- accepted: the bytes, where they fit
-  accepted-room : a .number ≡ 0 → o ≡ putIn out 0 (withoutCities file) → o ≡ roomAfter file out
+  accepted-room : r .answer .number ≡ 0 → o ≡ putIn out 0 (withoutCities file) → o ≡ roomAfter file out
   unfolding roomAfter pick
-  accepted-room z h = h ∙ sym (ap (λ b. roomBy b (withoutCities file) out) (sym e) ∙ rw (eq-eqb _ _ z))
+  accepted-room z h = h ∙ sym (ap (λ (x : FileRead). roomBy (x .answer) (withoutCities file) out) (sym e) ∙ rw (eq-eqb _ _ z))
 
-  pub room-small : {n : ℕ} → a .number ≡ 0 → n ≡ keptCount (linesIn file) → length out / 52 < n → o ≡ out → o ≡ roomAfter file out
+  pub room-small : {n : ℕ} → r .answer .number ≡ 0 → n ≡ keptCount (linesIn file) → length out / 52 < n → o ≡ out → o ≡ roomAfter file out
   room-small z f l h = accepted-room z (h ∙ put-long out 0 (withoutCities file) (omega arith) (omega (arith, size file (length out) e z f)))
 
-  pub room-filled : {n : ℕ} → a .number ≡ 0 → n ≡ keptCount (linesIn file) → n ≤ length out / 52 → o ≡ pasted out 0 (withoutCities file) → o ≡ roomAfter file out
+  pub room-filled : {n : ℕ} → r .answer .number ≡ 0 → n ≡ keptCount (linesIn file) → n ≤ length out / 52 → o ≡ pasted out 0 (withoutCities file) → o ≡ roomAfter file out
   room-filled z f l h = accepted-room z (put-fitting out 0 (withoutCities file) (omega arith) (omega (arith, size file (length out) e z f)) h)
 
 -- what is said to be written fits

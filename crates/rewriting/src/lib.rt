@@ -83,7 +83,8 @@ pub fn rewrite(file: &[u8], out: &mut [u8]) -> Rewritten
     ensures bytes { λ _. ⌜ now (out .exit) ≡ roomAfter (now (file .entry)) (now (out .entry)) ⌝ }
     ensures again { λ r. ⌜ Promised (now (file .entry)) r (now (out .exit)) ⌝ }
 {
-    let a = file::check(file);
+    let read = file::check(file);
+    let a = read.answer;
     if a.number != 0 {
         return Rewritten {
             answer: a,

@@ -9,7 +9,7 @@ use Rattle.field.specs.Leaf.{digitsOf}
 use Rattle.record.specs.Kinds.{codeOf, debitCode, batchCode, fileCode}
 use Rattle.record.specs.Faults.{firstFault, faultOf}
 use Rattle.record.specs.Read.{padded}
-use Rattle.reading.specs.State.{isLimited, within}
+use Rattle.reading.specs.State.{areWithin, isLimited, within}
 use Rattle.reading.specs.Order.{mayOpen, mayEnd, mayPay, mayName, mayText, mayRefer, textsBy, allowed}
 use Rattle.reading.specs.Step.{judgedAs, judgedKind, judgedLine, withCut, judgedFirst, stepAt}
 use Rattle.writer.specs.Encoding.{numberIn, textIn, blankIn, encodedLine}
@@ -18,7 +18,7 @@ use Rattle.writer.specs.Writing.{writtenOf}
 use Rattle.writer.specs.Cases.{Cases}
 
 pub cases : Cases
-unfolding pick same digitsOnto decimal valueAfter daysIn isDate isDesiredDate isTestCode isIdentification isOfDay weighted isEleven isOrderingAccount isAccount isOwnIf isSevenIf typeOf fieldAnswer firstOr digitsOf codeOf debitCode batchCode fileCode firstFault faultOf padded isLimited within mayOpen mayEnd mayPay mayName mayText mayRefer textsBy allowed judgedAs judgedKind judgedLine cutOf withCut judgedFirst stepAt numberIn textIn blankIn encodedLine digitsFor lineFor writtenOf
+unfolding pick same digitsOnto decimal valueAfter daysIn isDate isDesiredDate isTestCode isIdentification isOfDay weighted isEleven isOrderingAccount isAccount isOwnIf isSevenIf typeOf fieldAnswer firstOr digitsOf codeOf debitCode batchCode fileCode firstFault faultOf padded areWithin isLimited within mayOpen mayEnd mayPay mayName mayText mayRefer textsBy allowed judgedAs judgedKind judgedLine cutOf withCut judgedFirst stepAt numberIn textIn blankIn encodedLine digitsFor lineFor writtenOf
 cases =
     record {
       header = refl;

@@ -10,7 +10,7 @@ use Rattle.format.specs.declared.Answer.{Answer}
 use Rattle.format.specs.declared.EndingSoFar.the-variants.{CrLf, Lf}
 use Rattle.format.specs.declared.Group.the-variants.{Payments}
 use Rattle.format.specs.declared.TransactionType.the-variants.{UncheckedCreditor, Salary}
-use Rattle.record.specs.Faults.{nothingBefore, afterHeader}
+use Rattle.record.specs.Faults.{nothingBefore, afterHeader, noTotals}
 use Rattle.reading.specs.State.{noItem, startState}
 use Rattle.reading.specs.Step.{withEnding}
 use Rattle.reading.specs.declared.Stage.{Stage}
@@ -37,6 +37,7 @@ batchAt line p name =
       stage = p;
       before = afterHeader nothingBefore Payments 1;
       batch = record { account = 123456789; items = 1; total = 15000; accounts = 123458023; fixed = 0 };
+      totals = noTotals;
       item = record { name = name; reference = false; descriptions = 0 };
     }
 
@@ -58,6 +59,7 @@ orderedOf account =
       stage = stage.Ordered;
       before = afterHeader nothingBefore Payments 1;
       batch = record { account = account; items = 0; total = 0; accounts = 0; fixed = 0 };
+      totals = noTotals;
       item = noItem;
     }
 

@@ -25,11 +25,11 @@ check-spec =
     (λ c. (search needs, search answers depth 20 fits 10000))  -- loop-holds
     (λ c κs. search needs)  -- next-requires
     (λ c κs. search answers depth 20 fits 10000)  -- next-requires-2
-    (λ c. search needs)  -- same-length
+    (λ c. search (c .before .before .before .before .before .before .before .before .before .before .loop .inv .0, needs))  -- same-length
     (λ c. search answers depth 20 fits 10000)  -- returns
     (λ c. search needs)  -- sub-turns
     (λ c. search needs)  -- loop-less
-    (λ c. (search needs, search answers depth 20 fits 10000))  -- loop-again
+    (λ c. (search (c .before .before .before .before .before .before .before .before .before .before .loop .inv .0, needs), search answers depth 20 fits 10000))  -- loop-again
     (λ c. search needs)  -- same-length-2
     (λ c. search answers depth 20 fits 10000)  -- returns-2
     )

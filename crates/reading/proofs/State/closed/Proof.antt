@@ -9,6 +9,7 @@ closed-spec =
     tie.close
     (tie.spec
     (λ c κs. search needs)  -- after-header-requires
+    (λ c κs. search needs)  -- with-batch-requires
     (λ c κs. search needs)  -- empty-requires
     (λ c κs. search needs)  -- no-item-requires
     (λ c κs. search needs)  -- onward-requires

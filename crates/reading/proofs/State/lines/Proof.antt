@@ -1,6 +1,6 @@
 -- What State::lines ensures, by the laws of Limits and field's Picks.
 use borrow.Author.Needs.{needs}
-use Rattle.reading.proofs.Limits.{within-limited}
+use Rattle.reading.proofs.Limits.{within-going}
 use Rattle.field.proofs.Picks.{picks}
 use Rattle.reading.specs.Check.{judgedLines}
 use Rattle.reading.proofs.State.lines.Statement.{statement}
@@ -12,7 +12,7 @@ lines-spec =
     tie.close
     (tie.spec
     (λ c κs. search needs)  -- is-within-requires
-    (λ c κs. search within-limited)  -- run-requires
+    (λ c κs. search within-going)  -- run-requires
     (λ c κs. search needs)  -- refused-requires
     (λ c. search picks depth 20 fits 10000)  -- returns
     (λ c. search picks depth 20 fits 10000)  -- returns-2

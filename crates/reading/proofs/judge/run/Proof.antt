@@ -3,13 +3,13 @@ use borrow.Author.Needs.{needs}
 use Prim.Native.Nat.{_-_}
 use lib.ListN.{length}
 use Rattle.reading.proofs.Running.{Running, runs, run-inside, run-less, run-more}
-use Rattle.reading.proofs.Judgements.{limited-after}
-use Rattle.reading.specs.State.{Limited}
+use Rattle.reading.proofs.Judgements.{going-after}
+use Rattle.reading.specs.Bounds.{Going}
 use Rattle.reading.proofs.judge.run.Statement.{statement}
 use Rattle.reading.proofs.judge.run.Tie as tie
 
 abbrev Inv-loop : tie.InvT-loop
-Inv-loop bytes last₀ at₀ last at = Limited (last .next) × Running (last₀ .next) bytes last at
+Inv-loop bytes last₀ at₀ last at = Going (last .next) × Running (last₀ .next) bytes last at
 
 abbrev μ-loop : tie.MeasureT-loop
 μ-loop bytes last₀ at₀ last at = length bytes - at
@@ -27,8 +27,8 @@ run-spec =
     (λ c. search needs)  -- part-then-end
     (λ c κs. search needs)  -- then-requires
     (λ c. search runs depth 20 fits 10000)  -- returns
-    (λ c. search (run-inside (c .before .before .before .before .before .before .loop .inv .1) (c .before .before .before .before .before .loop-test .taken) (c .before .before .before .then .ensures) (c .before .if1 .left), needs))  -- add-at
+    (λ c. search (run-inside (c .before .before .before .before .before .before .loop .inv .1) (c .before .before .before .before .before .loop-test .taken) (c .before .before .before .then .ensures) (c .before .if1 .left), c .before .before .before .before .before .before .before .before .before .good .1 .0, needs))  -- add-at
     (λ c. search run-less depth 20 fits 10000)  -- loop-less
-    (λ c. (search limited-after depth 20 fits 10000, search run-more depth 20 fits 10000))  -- loop-again
+    (λ c. (search going-after depth 20 fits 10000, search run-more depth 20 fits 10000))  -- loop-again
     (λ c. search runs depth 20 fits 10000)  -- returns-2
     )
