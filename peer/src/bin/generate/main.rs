@@ -89,8 +89,8 @@ enum Aim {
 
 fn write_files(seed: u64, first: u64, count: u64, dir: &Path) -> io::Result<()> {
     std::fs::create_dir_all(dir)?;
-    let answers = aims::all().into_iter().map(Aim::Answer);
-    let aims: Vec<Aim> = answers.chain(later::all().into_iter().map(Aim::Later)).collect();
+    let later = later::all().into_iter().map(Aim::Later);
+    let aims: Vec<Aim> = later.chain(aims::all().into_iter().map(Aim::Answer)).collect();
     for index in first..first + count {
         let mut random = Random::new(seed, index);
         let file = generate(&mut random, index, &aims);
@@ -99,9 +99,9 @@ fn write_files(seed: u64, first: u64, count: u64, dir: &Path) -> io::Result<()> 
     Ok(())
 }
 
-/// One file. Every third takes the next answer of the table, and then those
-/// after closed batches, so that each is met soon; a few among the first are
-/// huge; the others are left to chance.
+/// One file. Every third takes the next answer after closed batches, and then
+/// of the table, so that each is met soon; a few among the first are huge; the
+/// others are left to chance.
 fn generate(random: &mut Random, index: u64, aims: &[Aim]) -> Vec<u8> {
     if let Some((scenario, ending)) = huge::scenario(index) {
         return join(&huge::file(random, scenario), ending);
