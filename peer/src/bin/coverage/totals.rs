@@ -1,7 +1,7 @@
 //! Items and cents of the batches that are closed: what they are by a file's
 //! own lines, and the shapes in which they can be met.
 
-use peer::table::{CODES, OTHER};
+use peer::table::{reachable, CODES, OTHER};
 use peer::{Batch, Ending, Totals};
 
 use crate::lines::Lines;
@@ -11,11 +11,6 @@ const BATCHES: [&str; 3] = ["no batch", "one batch", "several batches"];
 
 /// Of the batch that is not closed.
 const ITEMS: [&str; 2] = ["no items", "items"];
-
-/// The answers that a file can have before its first batch is closed.
-const FROM_THE_START: [u8; 11] = [1, 2, 3, 4, 5, 6, 7, 8, 9, 10, 14];
-/// Those that it can't.
-const LATER: [u8; 2] = [0, 11];
 
 /// What the totals of a file can be, and whether they are.
 type Size = (&'static str, fn(&Totals) -> bool);
@@ -74,11 +69,12 @@ pub fn all() -> Vec<String> {
 
 fn shapes() -> Vec<String> {
     let mut all = Vec::new();
-    for answer in FROM_THE_START {
-        all.extend(BATCHES.map(|batches| answered(answer, batches)));
-    }
-    for answer in LATER {
-        all.extend(BATCHES[1..].iter().map(|batches| answered(answer, batches)));
+    let mut answers: Vec<u8> = reachable().iter().map(|met| met.answer).collect();
+    answers.dedup();
+    for answer in answers {
+        // With these two the file trailer was read.
+        let fewest = usize::from(matches!(answer, 0 | 11));
+        all.extend(BATCHES[fewest..].iter().map(|batches| answered(answer, batches)));
     }
     for batches in BATCHES {
         all.extend(ITEMS.map(|items| refused_among(items, batches)));

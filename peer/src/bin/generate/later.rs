@@ -17,12 +17,13 @@ pub struct Later {
     ending: Ending,
 }
 
-/// Each answer that a file can have, with both line ends.
+/// Each answer of the table, with both line ends.
 pub fn all() -> Vec<Later> {
-    let answers = (0..=11).chain([14]);
+    let mut answers: Vec<u8> = aims::all().iter().map(|aim| aim.answer).collect();
+    answers.dedup();
     let both = |answer| [false, true].map(|several| (answer, several));
     let with = |(answer, several)| Ending::BOTH.map(|ending| Later { answer, several, ending });
-    answers.flat_map(both).flat_map(with).collect()
+    answers.into_iter().flat_map(both).flat_map(with).collect()
 }
 
 /// A file with that answer about its one batch, and batches put in before it.
@@ -87,6 +88,7 @@ mod tests {
 
     #[test]
     fn each_is_met() {
+        assert_eq!(all().len(), 13 * 2 * 2);
         for (index, later) in (0..).zip(all()) {
             for seed in 1..=10 {
                 let file = file(&mut Random::new(seed, index), later);
