@@ -4,7 +4,7 @@ use std::convert::Infallible;
 
 use crate::answer::Answer;
 use crate::ending::Ending;
-use crate::records::Record;
+use crate::records::{Record, Totals};
 use crate::state::State;
 
 /// The answer for a whole file: 0 with its number of lines, or the first
@@ -13,9 +13,17 @@ pub fn check(file: &[u8]) -> Answer {
     read(file, |_| {}).answer
 }
 
+/// Items and cents of a file's closed batches: of an accepted file all that
+/// it has, of a refused one those closed before the refusal.
+pub fn totals(file: &[u8]) -> Totals {
+    read(file, |_| {}).closed
+}
+
 /// A file read to its end or first refusal.
 pub(crate) struct FileRead<'a> {
     pub answer: Answer,
+    /// Of the batches closed by the lines read.
+    pub closed: Totals,
     /// How the lines read end.
     pub ending: Ending,
     /// What was not read: it begins with the line refused.
@@ -42,7 +50,8 @@ pub(crate) fn each<E>(
     loop {
         let line = state.line(rest);
         let Some(record) = line.record else {
-            return Ok(FileRead { answer: line.answer, ending: state.ending, rest });
+            let State { closed, ending, .. } = state;
+            return Ok(FileRead { answer: line.answer, closed, ending, rest });
         };
         visit(&line.state, &record)?;
         state = line.state;

@@ -5,7 +5,8 @@
 //! another program. Where the paper left a choice, NOTES.md
 //! says what was chosen and which sentence led there.
 //!
-//! * [`check`] reads a whole file and gives one answer;
+//! * [`check`] reads a whole file and gives one answer, [`totals`] the items
+//!   and cents of its closed batches;
 //! * [`report`] says it in words, with the line refused;
 //! * [`State::line`] reads one line and gives the next state;
 //! * [`list`] prints the listing;
@@ -28,13 +29,13 @@ pub mod table;
 mod writer;
 
 pub use answer::{number, Answer};
-pub use check::check;
+pub use check::{check, totals};
 pub use ending::Ending;
 pub use fields::{date_exists, eleven_check};
 pub use items::{item, Item, DESCRIPTION_ROOM};
 pub use listing::{list, list_answer, list_item};
 pub use records::{
-    Batch, BatchHeader, BatchTrailer, FileHeader, Group, OrderingParty, Record, TestCode,
+    Batch, BatchHeader, BatchTrailer, FileHeader, Group, OrderingParty, Record, TestCode, Totals,
     Transaction, TransactionType, Variant,
 };
 pub use report::report;

@@ -8,7 +8,8 @@ use crate::items::{item, DESCRIPTION_ROOM};
 use crate::records::{FileHeader, Record};
 
 /// Prints the header's keys when its line is accepted, a batch's when its
-/// trailer is, and the answer always; gives that answer back.
+/// trailer is, and always the totals of the batches printed and the answer;
+/// gives that answer back.
 pub fn list(file: &[u8], out: &mut impl Write) -> io::Result<Answer> {
     let read = each(file, |state, record| match record {
         Record::FileHeader(header) => {
@@ -28,6 +29,7 @@ pub fn list(file: &[u8], out: &mut impl Write) -> io::Result<Answer> {
         }
         _ => Ok(()),
     })?;
+    writeln!(out, "file-items={}\nfile-amount={}", read.closed.items, read.closed.amount)?;
     list_answer(&read.answer, out)
 }
 

@@ -188,6 +188,21 @@ impl Batch {
     pub const MAX_DESCRIPTIONS: u8 = 4;
 }
 
+/// Items and cents of the batches that are closed: those whose trailer was
+/// accepted.
+#[derive(Clone, Copy, Debug, Default, PartialEq, Eq)]
+pub struct Totals {
+    pub items: u64,
+    /// cents
+    pub amount: u64,
+}
+
+impl Totals {
+    /// 9,999 batches of the most that one can have.
+    pub const MAX_ITEMS: u64 = 999_900_000;
+    pub const MAX_AMOUNT: u64 = 45_373_483_806_849_099;
+}
+
 /// A record read, with its fields.
 #[derive(Clone, Copy, Debug, PartialEq, Eq)]
 pub enum Record {

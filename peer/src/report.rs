@@ -7,6 +7,7 @@ use crate::answer::{number, Answer};
 use crate::check::{read, FileRead};
 use crate::ending::Ending;
 use crate::fields::is_printable;
+use crate::records::Totals;
 use crate::table::field_name;
 
 /// Prints what there is to say of the file with this name; gives its answer.
@@ -14,16 +15,22 @@ pub fn report(name: &[u8], file: &[u8], out: &mut impl Write) -> io::Result<Answ
     let read = read(file, |_| {});
     out.write_all(name)?;
     if read.answer.is_accepted() {
-        writeln!(out, ": accepted, {} lines", read.answer.line)?;
+        writeln!(out, ": accepted, {} lines, {}", read.answer.line, amounts(read.closed))?;
     } else {
         refusal(&read, out)?;
     }
     Ok(read.answer)
 }
 
+/// `2 items, 1525.50`: the items, and the cents as euros.
+fn amounts(Totals { items, amount }: Totals) -> String {
+    let unit = if items == 1 { "item" } else { "items" };
+    format!("{items} {unit}, {}.{:02}", amount / 100, amount % 100)
+}
+
 /// What a refusal says after the name.
 fn refusal(read: &FileRead, out: &mut impl Write) -> io::Result<()> {
-    let FileRead { answer: Answer { number, line, column }, ending, rest } = *read;
+    let FileRead { answer: Answer { number, line, column }, ending, rest, .. } = *read;
     let field = field_name(rest, column.into());
     write!(out, ": line {line}")?;
     if let Some(field) = field {
@@ -154,6 +161,22 @@ mod tests {
     }
 
     #[test]
+    fn items_and_euros() {
+        for (items, amount, expected) in [
+            (0, 0, "0 items, 0.00"),
+            (1, 1, "1 item, 0.01"),
+            (1, 5, "1 item, 0.05"),
+            (1, 99, "1 item, 0.99"),
+            (2, 100, "2 items, 1.00"),
+            (2, 152_550, "2 items, 1525.50"),
+            (11, 100_009, "11 items, 1000.09"),
+            (Totals::MAX_ITEMS, Totals::MAX_AMOUNT, "999900000 items, 453734838068490.99"),
+        ] {
+            assert_eq!(amounts(Totals { items, amount }), expected);
+        }
+    }
+
+    #[test]
     fn what_is_shown() {
         assert_eq!(shown(b""), "");
         assert_eq!(shown(&[b' '; 60]), "");
@@ -178,7 +201,9 @@ mod tests {
                 for rest in [&b""[..], b"\n", b"0001A", &[255; 60]] {
                     let mut out = Vec::new();
                     let answer = Answer { number, line, column };
-                    refusal(&FileRead { answer, ending: Ending::Unknown, rest }, &mut out).unwrap();
+                    let closed = Totals::default();
+                    let read = FileRead { answer, closed, ending: Ending::Unknown, rest };
+                    refusal(&read, &mut out).unwrap();
                     assert!(out.ends_with(b"\n"));
                 }
             }

@@ -6,7 +6,7 @@ use crate::ending::Ending;
 use crate::fields::{is_seven_digits, Fault, Field, Fields};
 use crate::records::{
     Batch, BatchHeader, BatchTrailer, FileHeader, Group, Kind, OrderingParty, Record, TestCode,
-    Transaction, TransactionType, Variant,
+    Totals, Transaction, TransactionType, Variant,
 };
 
 /// The lines of the longest file that can be accepted: 9,999 batches of
@@ -62,6 +62,8 @@ pub struct State {
     pub referenced: bool,
     /// This item's own descriptions.
     pub own: u8,
+    /// Of the batches closed so far.
+    pub closed: Totals,
 }
 
 /// What reading one line gives.
@@ -101,6 +103,7 @@ impl State {
             named: false,
             referenced: false,
             own: 0,
+            closed: Totals { items: 0, amount: 0 },
         }
     }
 
@@ -153,6 +156,8 @@ impl State {
             && self.sequence <= BatchHeader::MAX_SEQUENCE
             && self.fixed <= Batch::MAX_DESCRIPTIONS
             && self.own <= Batch::MAX_DESCRIPTIONS
+            && self.closed.items <= Totals::MAX_ITEMS
+            && self.closed.amount <= Totals::MAX_AMOUNT
     }
 
     /// Reads the fields from the left; the first fault is the answer.
@@ -315,7 +320,10 @@ impl State {
                 self.own += 1;
                 Place::Description
             }
-            Record::BatchTrailer(_) => Place::BatchTrailer,
+            Record::BatchTrailer(trailer) => {
+                self.close(trailer);
+                Place::BatchTrailer
+            }
             Record::FileTrailer => Place::FileTrailer,
         };
         Ok(self)
@@ -330,6 +338,12 @@ impl State {
         self.items = 0;
         self.total = 0;
         self.accounts = 0;
+    }
+
+    /// Counts in the batch that this trailer closes.
+    fn close(&mut self, trailer: &BatchTrailer) {
+        self.closed.items += u64::from(trailer.items);
+        self.closed.amount += trailer.amount;
     }
 
     /// Begins the next item and counts it in.

@@ -161,7 +161,8 @@ fn case_9_four_fixed_and_a_reference() {
 #[test]
 fn case_10_empty_input() {
     assert_eq!(check(b""), answer(10, 1, 0));
-    assert_eq!(listing(b""), "answer=10\nline=1\ncolumn=0\n");
+    let expected = "file-items=0\nfile-amount=0\nanswer=10\nline=1\ncolumn=0\n";
+    assert_eq!(listing(b""), expected);
     assert_eq!(rewrite(b""), Rewritten { answer: answer(10, 1, 0), bytes: vec![] });
 }
 
@@ -212,11 +213,12 @@ fn a_listing_of_a_refused_file() {
     let mut lines = EXAMPLE.to_vec();
     lines[7] = "9990A00000000000015255003580259220000001";
     let header = LISTING.split_inclusive("duplicate=1\n").next().unwrap();
-    let expected = format!("{header}answer=9\nline=8\ncolumn=34\n");
+    let expected = format!("{header}{NOTHING_CLOSED}answer=9\nline=8\ncolumn=34\n");
     assert_eq!(listing(&file(&lines)), expected);
-    // The header refused: only the last three.
+    // The header refused: only the last five.
     lines[0] = "0001A150309CLIEOP03NACHT15013";
-    assert_eq!(listing(&file(&lines)), "answer=5\nline=1\ncolumn=29\n");
+    let expected = format!("{NOTHING_CLOSED}answer=5\nline=1\ncolumn=29\n");
+    assert_eq!(listing(&file(&lines)), expected);
     // Trailing spaces stand.
     lines[0] = "0001A150309CLIEOP03N    15012";
     assert!(listing(&file(&lines)).contains("sender=N    \nidentification=1501\nduplicate=2\n"));

@@ -30,7 +30,17 @@ fn third_ended(end: &str, bytes: &[u8]) -> String {
 
 #[test]
 fn accepted() {
-    assert_eq!(of_lines(&EXAMPLE), "it: accepted, 9 lines\n");
+    assert_eq!(of_lines(&EXAMPLE), "it: accepted, 9 lines, 2 items, 1525.50\n");
+    for (cents, euros) in
+        [(1, "0.01"), (5, "0.05"), (100, "1.00"), (45_378_021_608, "453780216.08")]
+    {
+        let item = transaction("0005", cents, 123_456_789, 1234);
+        let close = trailer(cents, 123_458_023, 1);
+        assert_eq!(
+            of_lines(&[HEADER, PAYMENTS, PARTY, &item, &close, END]),
+            format!("it: accepted, 6 lines, 1 item, {euros}\n")
+        );
+    }
 }
 
 #[test]
@@ -224,7 +234,8 @@ fn thirteen_as_the_last_character() {
 fn a_refused_line_stands_where_the_lines_before_it_end() {
     for end in ["\r\n", "\n"] {
         let mut lines = EXAMPLE;
-        assert_eq!(said(&file_ended(&lines, end)), "it: accepted, 9 lines\n");
+        let accepted = "it: accepted, 9 lines, 2 items, 1525.50\n";
+        assert_eq!(said(&file_ended(&lines, end)), accepted);
         lines[8] = "9998A";
         assert_eq!(
             said(&file_ended(&lines, end)),
@@ -279,7 +290,7 @@ fn any_cut_and_any_byte() {
         let (answer, text) = (check(&bytes), said(&bytes));
         assert_eq!(text.matches('\n').count(), printed_lines(answer), "{text}");
         assert!(text.bytes().all(|byte| byte == 10 || (32..=126).contains(&byte)));
-        let end = if answer.number == 0 { " lines" } else { ")" };
+        let end = if answer.number == 0 { ", 2 items, 1525.50" } else { ")" };
         assert!(text.ends_with('\n') && text.lines().next().unwrap().ends_with(end));
     }
 }

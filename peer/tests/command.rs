@@ -9,11 +9,12 @@ use std::os::unix::ffi::OsStrExt;
 use std::path::PathBuf;
 use std::process::{Command, Output, Stdio};
 
-use common::{file, EXAMPLE, LISTING};
+use common::{file, EXAMPLE, LISTING, NOTHING_CLOSED};
 
 const ACCEPTED: &str = "answer=0\nline=9\ncolumn=0\n";
 /// Of the example cut after its seventh line.
 const LACKING: &str = "answer=10\nline=8\ncolumn=0\n";
+const ACCEPTED_IN_WORDS: &str = "accepted, 9 lines, 2 items, 1525.50\n";
 const LACKING_IN_WORDS: &str = "line 8: the file ends before its file trailer (answer 10)\n";
 const NO_SUCH_ITEM: &str = "answer=13\nline=9\ncolumn=0\n";
 
@@ -76,8 +77,9 @@ fn standard_input_and_one_file_have_no_title() {
         assert_eq!(said(question, &whole), out(0, &expected));
         assert_eq!(said(&[question, &[&name]].concat(), b""), out(0, &expected));
     }
-    assert_eq!(said(&["check"], &whole), out(0, "standard input: accepted, 9 lines\n"));
-    assert_eq!(said(&["check", &name], b""), out(0, format!("{name}: accepted, 9 lines\n")));
+    let in_words = |name: &str| out(0, format!("{name}: {ACCEPTED_IN_WORDS}"));
+    assert_eq!(said(&["check"], &whole), in_words("standard input"));
+    assert_eq!(said(&["check", &name], b""), in_words(&name));
 }
 
 #[test]
@@ -87,7 +89,7 @@ fn several_files_each_under_its_name() {
     let header = LISTING.split_inclusive("duplicate=1\n").next().unwrap();
     assert_eq!(
         said(&["list", &whole, &cut], b""),
-        out(1, format!("input={whole}\n{LISTING}input={cut}\n{header}{LACKING}"))
+        out(1, format!("input={whole}\n{LISTING}input={cut}\n{header}{NOTHING_CLOSED}{LACKING}"))
     );
     let item = second_item();
     assert_eq!(
@@ -96,7 +98,7 @@ fn several_files_each_under_its_name() {
     );
     assert_eq!(
         said(&["check", &whole, &cut], b""),
-        out(1, format!("{whole}: accepted, 9 lines\n{cut}: {LACKING_IN_WORDS}"))
+        out(1, format!("{whole}: {ACCEPTED_IN_WORDS}{cut}: {LACKING_IN_WORDS}"))
     );
 }
 
@@ -155,7 +157,7 @@ fn what_cannot_be_read_is_told_and_the_rest_answered() {
     let directory = env!("CARGO_TARGET_TMPDIR");
     let names = [missing, &cut, directory, &whole];
     for (question, expected) in [
-        (&["check"][..], format!("{cut}: {LACKING_IN_WORDS}{whole}: accepted, 9 lines\n")),
+        (&["check"][..], format!("{cut}: {LACKING_IN_WORDS}{whole}: {ACCEPTED_IN_WORDS}")),
         (&["item", "2", "1"], format!("input={cut}\n{LACKING}input={whole}\n{NO_SUCH_ITEM}")),
         (&["rewrite"], String::from_utf8(file(&EXAMPLE)).unwrap()),
     ] {
@@ -196,5 +198,6 @@ fn a_name_stands_as_it_is() {
     let mut command = Command::new(env!("CARGO_BIN_EXE_peer"));
     let output = command.arg("check").arg(&path).output().unwrap();
     assert_eq!(output.status.code(), Some(0));
-    assert_eq!(output.stdout, [path.as_os_str().as_bytes(), b": accepted, 9 lines\n"].concat());
+    let expected = [path.as_os_str().as_bytes(), b": ", ACCEPTED_IN_WORDS.as_bytes()].concat();
+    assert_eq!(output.stdout, expected);
 }

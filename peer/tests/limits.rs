@@ -37,6 +37,8 @@ fn impossible_states() {
     assert_eq!(LONGEST_FILE, 6_999_369_995);
     let line = file(&[HEADER]);
     let state = State::new();
+    let items = |items| State { closed: Totals { items, amount: 0 }, ..state };
+    let amount = |amount| State { closed: Totals { items: 0, amount }, ..state };
     for good in [
         State { lines: LONGEST_FILE, ..state },
         State { items: 100_000, ..state },
@@ -45,6 +47,8 @@ fn impossible_states() {
         State { sequence: 9_999, ..state },
         State { fixed: 4, ..state },
         State { own: 4, ..state },
+        items(999_900_000),
+        amount(45_373_483_806_849_099),
     ] {
         assert_eq!(good.line(&line).answer, answer(0, good.lines + 1, 0));
     }
@@ -58,6 +62,10 @@ fn impossible_states() {
         State { fixed: 5, ..state },
         State { own: 5, ..state },
         State { own: 5, place: Place::FileTrailer, ..state },
+        items(999_900_001),
+        items(u64::MAX),
+        amount(45_373_483_806_849_100),
+        amount(u64::MAX),
     ] {
         for rest in [&line[..], &line[..3], &[]] {
             let refused = LineRead { answer: answer(24, 0, 0), state: bad, record: None, taken: 0 };

@@ -49,6 +49,8 @@ account=0123456789
 items=2
 amount=152550
 accounts=0358025922
+file-items=2
+file-amount=152550
 answer=0
 line=9
 column=0
@@ -89,6 +91,9 @@ pub fn in_payments(lines: &[&str]) -> (u8, u8) {
 pub fn in_debits(lines: &[&str]) -> (u8, u8) {
     last(&[&[HEADER, DEBITS, PARTY], lines].concat())
 }
+
+/// The two lines before the answer where no batch is closed.
+pub const NOTHING_CLOSED: &str = "file-items=0\nfile-amount=0\n";
 
 pub fn listing(bytes: &[u8]) -> String {
     let mut out = Vec::new();

@@ -1,25 +1,31 @@
 //! `coverage list FILE.. <ANSWERS` counts which answers of the table these
-//! files met, and which shapes the accepted ones have; `coverage item FILE..
-//! <ANSWERS` the answers of items asked for; `coverage check FILE.. <ANSWERS`
-//! the answers told in words, each with the field it named. ANSWERS is what a
-//! program printed about the files, in their order. `coverage report <COUNTS`
-//! adds such counts up, prints them all, and fails if an answer or shape was
-//! met by no file, or one was met that isn't known.
+//! files met, which shapes the accepted ones have, and with which totals of
+//! closed batches they came; `coverage item FILE.. <ANSWERS` the answers of
+//! items asked for; `coverage check FILE.. <ANSWERS` the answers told in words,
+//! each with the field it named. ANSWERS is what a program printed about the
+//! files, in their order; totals that are not those of a file's own lines are
+//! an error. `coverage report <COUNTS` adds such counts up, prints them all,
+//! and fails if an answer or shape was met by no file, or one was met that
+//! isn't known.
 
 #![forbid(unsafe_code)]
 
+mod lines;
 mod reports;
 mod shapes;
+mod totals;
 mod unchecked;
 
 use std::collections::BTreeMap;
 use std::io::{self, BufRead, Read};
 use std::process::ExitCode;
 
-use peer::table::{reachable, Met, ANY, CODES, NONE, OTHER, OTHER_END, SHORT, START, UNENDED};
-use peer::Ending;
+use peer::table::{reachable, Met, ANY, CODES, NONE, OTHER, OTHER_END, SHORT, UNENDED};
+use peer::{Ending, Totals};
 
-use reports::{Report, WAYS};
+use lines::Lines;
+use reports::{number, Report, WAYS};
+use totals::Closed;
 
 /// Of an item asked for: there is one, or 13.
 const ITEM: &str = "item";
@@ -51,45 +57,67 @@ fn print(met: Vec<String>) -> bool {
     true
 }
 
-/// Number, line and column of each answer on standard input.
-fn answers(names: &[String]) -> io::Result<Vec<[usize; 3]>> {
-    let mut answers = Vec::new();
-    let mut numbers = [0; 3];
+/// The numbers under these keys, with which a program ends what it prints
+/// about each of these files, on standard input.
+fn last_numbers<const N: usize>(keys: [&str; N], names: &[String]) -> io::Result<Vec<[u64; N]>> {
+    let mut all = Vec::new();
+    let mut numbers = Vec::new();
     for line in io::stdin().lock().split(b'\n') {
         let line = line?;
         let line = String::from_utf8_lossy(&line);
-        let (key, value) = line.split_once('=').unwrap_or(("", ""));
-        let place = ["answer", "line", "column"].iter().position(|&name| name == key);
-        let Some(place) = place else { continue };
-        numbers[place] = value.parse().map_err(io::Error::other)?;
-        if key == "column" {
-            answers.push(numbers);
+        let (key, value) = line.split_once('=').unwrap_or((&line, ""));
+        if key == keys[numbers.len()] {
+            let wrong = || io::Error::other(format!("{line}: not as a number is printed"));
+            numbers.push(number(value).ok_or_else(wrong)?);
+        } else if !numbers.is_empty() || keys.contains(&key) {
+            return Err(io::Error::other(format!("{line}: not in its place")));
+        }
+        if let Ok(whole) = <[u64; N]>::try_from(&numbers[..]) {
+            all.push(whole);
+            numbers.clear();
         }
     }
-    if answers.len() != names.len() {
+    if all.len() != names.len() || !numbers.is_empty() {
         return Err(io::Error::other("not one answer for each file"));
     }
-    Ok(answers)
+    Ok(all)
 }
 
 fn of_lists(names: &[String]) -> io::Result<Vec<String>> {
     let mut all = Vec::new();
-    for (name, [number, line, column]) in names.iter().zip(answers(names)?) {
+    let keys = ["file-items", "file-amount", "answer", "line", "column"];
+    for (name, numbers) in names.iter().zip(last_numbers(keys, names)?) {
+        let [items, amount, answer, line, column] = numbers;
+        let (answer, line, column) = (answer as u8, line as usize, column as usize);
         let file = std::fs::read(name)?;
-        all.extend(met_by_file(&file, number as u8, line, column).iter().map(Met::to_string));
-        if number == 0 {
+        let lines = Lines::of(&file);
+        all.extend(met_by_file(&lines, answer, line, column).iter().map(Met::to_string));
+        let closed = Closed::of(&lines, answer, line);
+        same_totals(name, &closed, Totals { items, amount })?;
+        all.extend(closed.shapes(&lines, answer, line));
+        if answer == 0 {
             all.extend(shapes::of(&file));
         }
     }
     Ok(all)
 }
 
+/// Are the totals printed those of the lines that the file itself has?
+fn same_totals(name: &str, closed: &Closed, printed: Totals) -> io::Result<()> {
+    if closed.totals == printed {
+        return Ok(());
+    }
+    let wrong = format!("{name}: {:?}, but {printed:?} was printed", closed.totals);
+    Err(io::Error::other(wrong))
+}
+
 /// The file's own refusal is counted with the file.
 fn of_items(names: &[String]) -> io::Result<Vec<String>> {
     let mut all = Vec::new();
-    for (name, [number, _, _]) in names.iter().zip(answers(names)?) {
-        if matches!(number, 0 | 13) {
-            all.push(of_item(number as u8, Ending::after_line(&std::fs::read(name)?)));
+    let keys = ["answer", "line", "column"];
+    for (name, [answer, _, _]) in names.iter().zip(last_numbers(keys, names)?) {
+        if matches!(answer, 0 | 13) {
+            all.push(of_item(answer as u8, Ending::after_line(&std::fs::read(name)?)));
         }
     }
     Ok(all)
@@ -108,8 +136,13 @@ fn of_checks(names: &[String]) -> io::Result<Vec<String>> {
         let Some(report) = Report::take(name, &mut lines) else {
             return Err(io::Error::other(format!("{name}: not as check prints it")));
         };
-        let Report { answer, line, column, field, way } = report;
-        let met = met_by_file(&std::fs::read(name)?, answer, line, column);
+        let Report { answer, line, column, field, way, totals } = report;
+        let file = std::fs::read(name)?;
+        let lines_of_file = Lines::of(&file);
+        if let Some(totals) = totals {
+            same_totals(name, &Closed::of(&lines_of_file, answer, line), totals)?;
+        }
+        let met = met_by_file(&lines_of_file, answer, line, column);
         all.extend(met.iter().map(|met| in_words(met, field.as_deref())));
         all.extend(way.map(broken));
     }
@@ -128,30 +161,23 @@ fn broken(way: &str) -> String {
     format!("broken: {way}")
 }
 
-fn met_by_file(file: &[u8], answer: u8, line: usize, column: usize) -> Vec<Met> {
-    let ending = Ending::after_line(file);
-    let met = |record, after| Met::new(ending, answer, record, column, after);
-    // A first line that has neither end is short where 13 and 10 lack room.
-    let length = if ending == Ending::Ten { ending } else { Ending::ThirteenTen }.line_length();
-    let from = |line| file.get(line * length..).unwrap_or_default();
-    let (after, here) = match line {
-        0 | 1 => (START, file),
-        _ => (record_of(from(line - 2)), from(line - 1)),
-    };
+fn met_by_file(lines: &Lines, answer: u8, line: usize, column: usize) -> Vec<Met> {
+    let met = |record, after| Met::new(lines.ending, answer, record, column, after);
+    let (after, here, record) = (lines.record_before(line), lines.from(line), lines.record(line));
     match answer {
         0 => vec![met(NONE, ANY)],
         // Once by what stands there, once by the place.
         1 if Ending::after_line(here) != Ending::Unknown => {
-            vec![met(record_of(here), ANY), met(OTHER_END, after)]
+            vec![met(record, ANY), met(OTHER_END, after)]
         }
-        1 if here.len() < length => vec![met(SHORT, after)],
+        1 if here.len() < lines.length => vec![met(SHORT, after)],
         1 => vec![met(UNENDED, after)],
         2 => vec![met(code_of(here), ANY), met(ANY, after)],
-        3 => vec![met(record_of(here), after)],
+        3 => vec![met(record, after)],
         10 | 11 => vec![met(NONE, after)],
         _ => {
-            let own = (1..line).rev().find_map(|before| ordering_account(from(before - 1)));
-            let mut codes = vec![record_of(here)];
+            let own = (1..line).rev().find_map(|before| ordering_account(lines.from(before)));
+            let mut codes = vec![record];
             codes.extend(unchecked::codes(here, own.unwrap_or_default(), answer, column));
             codes.into_iter().map(|code| met(code, ANY)).collect()
         }
@@ -162,11 +188,6 @@ fn met_by_file(file: &[u8], answer: u8, line: usize, column: usize) -> Vec<Met> 
 /// it is no batch header.
 fn ordering_account(here: &[u8]) -> Option<&[u8]> {
     here.starts_with(b"0010").then(|| here.get(7..17))?
-}
-
-/// Code and variant of the line that these bytes begin with.
-fn record_of(here: &[u8]) -> &'static str {
-    CODES.into_iter().find(|code| here.starts_with(code.as_bytes())).unwrap_or(OTHER)
 }
 
 /// The code alone, its variant being wrong.
@@ -199,6 +220,7 @@ fn report() -> io::Result<bool> {
         ("answers of check with the name of the field", told),
         ("ways to be broken", WAYS.map(broken).to_vec()),
         ("shapes of accepted files", shapes::all()),
+        ("shapes of totals", totals::all()),
     ] {
         all_met &= summary(what, &names, &mut totals);
     }

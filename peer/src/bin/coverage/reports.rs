@@ -1,5 +1,7 @@
 //! What `check` printed, read back.
 
+use peer::Totals;
+
 /// Ways in which a line can be broken.
 pub const WAYS: [&str; 5] = [
     "the file ends in it",
@@ -18,6 +20,8 @@ pub struct Report {
     pub field: Option<String>,
     /// Which of [`WAYS`], of a broken line.
     pub way: Option<&'static str>,
+    /// Of an accepted file.
+    pub totals: Option<Totals>,
 }
 
 impl Report {
@@ -25,9 +29,8 @@ impl Report {
     /// these lines; none if it isn't as it should be.
     pub fn take<'a>(name: &str, lines: &mut impl Iterator<Item = &'a str>) -> Option<Self> {
         let said = lines.next()?.strip_prefix(name)?.strip_prefix(": ")?;
-        if let Some(count) = said.strip_prefix("accepted, ") {
-            let line = count.strip_suffix(" lines")?.parse().ok()?;
-            return Some(Self { answer: 0, line, column: 0, field: None, way: None });
+        if let Some(counts) = said.strip_prefix("accepted, ") {
+            return Self::accepted(counts);
         }
         let report = Self::refusal(said)?;
         if report.answer != 10 {
@@ -37,6 +40,22 @@ impl Report {
             return None;
         }
         Some(report)
+    }
+
+    /// `L lines, N items, EUROS.CENTS`, or `1 item`.
+    fn accepted(counts: &str) -> Option<Self> {
+        let (lines, totals) = counts.split_once(" lines, ")?;
+        let (items, amount) = totals.split_once(", ")?;
+        let items = match items {
+            "1 item" => 1,
+            _ => number(items.strip_suffix(" items")?).filter(|&items| items != 1)?,
+        };
+        let (euros, cents) = amount.split_once('.')?;
+        let two = cents.len() == 2 && cents.bytes().all(|byte| byte.is_ascii_digit());
+        let cents: u64 = cents.parse().ok().filter(|_| two)?;
+        let totals = Some(Totals { items, amount: 100 * number(euros)? + cents });
+        let line = number(lines)? as usize;
+        Some(Self { answer: 0, line, column: 0, field: None, way: None, totals })
     }
 
     /// `line L, column C, FIELD: WORDS (answer A)`, or without column and field.
@@ -51,8 +70,13 @@ impl Report {
         };
         let field = place.next().map(String::from);
         let answer = answer.parse().ok()?;
-        Some(Self { answer, line, column, field, way: way(words) })
+        Some(Self { answer, line, column, field, way: way(words), totals: None })
     }
+}
+
+/// A number without leading zeros.
+pub fn number(text: &str) -> Option<u64> {
+    text.parse().ok().filter(|number: &u64| number.to_string() == text)
 }
 
 fn way(words: &str) -> Option<&'static str> {
@@ -82,9 +106,10 @@ mod tests {
             peer::report(b"it", file, &mut out).unwrap();
             let printed = String::from_utf8(out).unwrap();
             let mut lines = printed.lines();
-            let Report { answer, line, column, field, way } =
+            let Report { answer, line, column, field, way, totals } =
                 Report::take("it", &mut lines).unwrap();
             assert_eq!((answer, line, column, field.as_deref(), way), expected, "{printed}");
+            assert_eq!(totals, None);
             assert_eq!(lines.next(), None);
         };
         of(b"", (10, 1, 0, None, None));
@@ -99,10 +124,41 @@ mod tests {
     }
 
     #[test]
+    fn totals_of_accepted_files() {
+        for (printed, line, items, amount) in [
+            ("it: accepted, 9 lines, 2 items, 1525.50", 9, 2, 152_550),
+            ("it: accepted, 6 lines, 1 item, 0.05", 6, 1, 5),
+            ("it: accepted, 7 lines, 21 items, 100.00", 7, 21, 10_000),
+        ] {
+            let report = Report::take("it", &mut printed.lines()).unwrap();
+            assert_eq!((report.answer, report.line, report.column), (0, line, 0));
+            assert_eq!(report.totals, Some(Totals { items, amount }));
+        }
+        for counts in [
+            "9 lines",
+            "9 lines, 2 items",
+            "9 lines, 2 item, 1525.50",
+            "9 lines, 1 items, 1525.50",
+            "9 lines, 02 items, 1525.50",
+            "9 lines, 2 items, 01525.50",
+            "9 lines, 2 items, 1525.5",
+            "9 lines, 2 items, 1525.+5",
+            "9 lines, 2 items, 1.525.50",
+            "9 lines, 2 items, 1,525.50",
+            "9 lines, 2 items, .50",
+            "9 lines, 2 items, 152550",
+            "9 lines, 2 items, 1525.500",
+        ] {
+            let printed = format!("it: accepted, {counts}");
+            assert!(Report::take("it", &mut printed.lines()).is_none(), "{printed}");
+        }
+    }
+
+    #[test]
     fn what_it_does_not_print() {
         for printed in [
             "",
-            "other: accepted, 9 lines",
+            "other: accepted, 9 lines, 2 items, 1525.50",
             "it: accepted",
             "it: line 1: words",
             "it: line 1: words (answer 11)",

@@ -27,7 +27,11 @@ pub fn file(random: &mut Random, aim: Met) -> Vec<u8> {
         Ending::Unknown => *random.pick(&Ending::BOTH),
         fixed => fixed,
     };
-    let lines = match aim.answer {
+    join(&lines(random, aim), ending)
+}
+
+pub fn lines(random: &mut Random, aim: Met) -> Vec<Line> {
+    match aim.answer {
         0 => valid::file(random),
         1 => broken(random, aim),
         2 => unknown(random, aim),
@@ -38,10 +42,9 @@ pub fn file(random: &mut Random, aim: Met) -> Vec<u8> {
             lines.truncate(upto);
             lines
         }
-        11 => return after_the_trailer(random, ending),
+        11 => after_the_trailer(random),
         _ => of_field(random, aim),
-    };
-    join(&lines, ending)
+    }
 }
 
 fn ends_in(lines: &[Line], code: &str) -> bool {

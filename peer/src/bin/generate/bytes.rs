@@ -46,23 +46,23 @@ pub fn cut(random: &mut Random, ending: Ending) -> Vec<u8> {
 }
 
 /// Something after the file trailer.
-pub fn after_the_trailer(random: &mut Random, ending: Ending) -> Vec<u8> {
-    let mut bytes = join(&valid::file(random), ending);
+pub fn after_the_trailer(random: &mut Random) -> Vec<Line> {
+    let mut lines = valid::file(random);
     match random.below(9) {
-        0 => bytes.push(26),
-        1 => bytes.extend(b"\r\n"),
-        2 => bytes.push(b'\n'),
-        3 => bytes.push(0),
-        4 => bytes.push(b' '),
-        5 => bytes.extend(join(&[Line::new("9999A")], ending)),
-        6 => bytes.extend(join(&[any_stray(random)], ending)),
-        7 => bytes.extend_from_within(..),
+        0 => lines.push(Line::bare(vec![26])),
+        1 => lines.push(Line::bare(b"\r\n".to_vec())),
+        2 => lines.push(Line::bare(vec![10])),
+        3 => lines.push(Line::bare(vec![0])),
+        4 => lines.push(Line::bare(vec![b' '])),
+        5 => lines.push(Line::new("9999A")),
+        6 => lines.push(any_stray(random)),
+        7 => lines.extend(lines.clone()),
         _ => {
             let length = random.between(1, 60);
-            bytes.extend((0..length).map(|_| random.byte()));
+            lines.push(Line::bare((0..length).map(|_| random.byte()).collect()));
         }
     }
-    bytes
+    lines
 }
 
 /// No CLIEOP03 file at all, or only the beginning of one.

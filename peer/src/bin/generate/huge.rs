@@ -3,7 +3,7 @@
 use peer::Ending;
 
 use crate::line::Line;
-use crate::plan::{file_of, Extras, Plan};
+use crate::plan::{batch, file_of, Extras, Plan};
 use crate::random::Random;
 use crate::spoil::spoil_field;
 use crate::values::{any_account, ordinary_account, seven_digit_account, LARGEST_TOTAL};
@@ -24,7 +24,8 @@ pub fn file(random: &mut Random, scenario: u64) -> Vec<Line> {
     let mut lines = match scenario {
         0 => over_the_total_too(random, debits),
         3 => many_batches(random, debits),
-        4 | 6 => many_items(random, debits, 100_000),
+        4 => more_than_a_batch(random, debits),
+        6 => many_items(random, debits, 100_000),
         5 => many_items(random, debits, 99_999),
         _ => many_items(random, debits, 100_001),
     };
@@ -55,6 +56,15 @@ fn many_batches(random: &mut Random, debits: bool) -> Vec<Line> {
 fn many_items(random: &mut Random, debits: bool, items: usize) -> Vec<Line> {
     let cents = random.between(1, 40_000_000);
     of_amounts(random, debits, vec![cents; items])
+}
+
+/// A batch with as many items as it may have, and then another.
+fn more_than_a_batch(random: &mut Random, debits: bool) -> Vec<Line> {
+    let mut lines = many_items(random, debits, 100_000);
+    let more = Plan::ordinary(random, 2);
+    let end = lines.len() - 1;
+    lines.splice(end..end, batch(random, debits, 2, &more, Extras::None));
+    lines
 }
 
 /// Item 100,001 is over the total too; its column comes second.

@@ -42,6 +42,11 @@ impl Line {
         Line { body, end: End::Own }
     }
 
+    /// These bytes and nothing more.
+    pub fn bare(body: Vec<u8>) -> Self {
+        Line { body, end: End::Bytes(vec![]) }
+    }
+
     pub fn is(&self, code: &str) -> bool {
         self.body.starts_with(code.as_bytes())
     }

@@ -34,7 +34,8 @@ pub fn over_the_total(random: &mut Random) -> Vec<Line> {
     plan.add(random, over);
     let more = random.below(3);
     (0..more).for_each(|_| plan.add(random, 1));
-    file_of(random, debits, 1, &[plan], Extras::None)
+    let sequence = random.between(1, 9_999);
+    file_of(random, debits, sequence, &[plan], Extras::None)
 }
 
 /// Another fault on one of the last lines.

@@ -142,6 +142,8 @@ pub fn amount(random: &mut Random) -> u64 {
         0 => 1,
         1 => LARGEST_AMOUNT,
         2 => random.between(1, LARGEST_AMOUNT),
+        // Whole euros.
+        3 => 100 * random.between(1, 10_000),
         _ => random.between(1, 1_000_000),
     }
 }
