@@ -1,11 +1,11 @@
--- An answer in one number, and how it is read. Assumes nothing.
+-- An answer in one number, and how it is read; numbers that are lent. Assumes nothing.
 use Prim.Native.Nat.{ℕ, _+_, _*_, _/_, _%_, _≤_, _<_}
 use mathlib.Core.Path.{_≡_, refl, sym, ap, subst, _∙_}
 use mathlib.Core.List.{List}
 use mathlib.Core.Bool.{Bool, true, false}
 use native.Mathlib.Omega.{arith}
 use borrow.Author.Needs.{needs}
-use borrow.Author.Tests.{eqb-false}
+use borrow.Author.Tests.{eq-eqb, ne-eqb, eqb-false}
 use lib.Dec.{eqb}
 use Rattle.machine.specs.Lists.{pick}
 use Rattle.format.specs.Answers.{refusal, acceptance}
@@ -19,7 +19,7 @@ use Rattle.reading.specs.declared.FileRead.{FileRead}
 use Rattle.reading.proofs.Limits.{within-line}
 use Rattle.reading.proofs.Answers.{rest-named}
 use Rattle.file.specs.Meaning.{Means}
-use Rattle.clieop_c.specs.Returned.{packed, unpacked}
+use Rattle.clieop_c.specs.Returned.{packed, unpacked, numberAfter, itemsAfter, amountAfter}
 
 -- WHAT WAS PACKED IS READ BACK
 module _ (a : Answer) (n : a .number < 256) (c : a .column < 256) where
@@ -43,6 +43,17 @@ module _ {number column : ℕ} (a : Answer) (n : number ≡ a .number) (c : colu
   packs-read h k = ap unpacked packs ∙ read-packed a h k
 
 pub ruleset packing = (packs, packs-read, needs)
+
+-- ## A number that is lent
+
+module _ (a : Answer) (n before : ℕ) where
+  pub number-handed : a .number ≡ 0 → n ≡ numberAfter a n before
+  unfolding numberAfter pick
+  number-handed z = rw (eq-eqb _ _ z) refl
+
+  pub number-kept : (a .number ≡ 0 → ⊥) → before ≡ numberAfter a n before
+  unfolding numberAfter pick
+  number-kept z = rw (ne-eqb _ _ z) refl
 
 -- ## No answer of a file names a line above 6,999,369,996
 
@@ -76,5 +87,12 @@ module _ {x : FileRead} (file : List ℕ) (e : x ≡ readOf file) where
 
     pub check-means : Means file (x .answer) → Means file (unpacked r)
     check-means m = subst (Means file) (sym u) m
+
+  module _ {n : ℕ} (before : ℕ) where
+    pub check-items : n ≡ itemsAfter x before → n ≡ itemsAfter (readOf file) before
+    check-items h = h ∙ ap (λ (y : FileRead). itemsAfter y before) e
+
+    pub check-amount : n ≡ amountAfter x before → n ≡ amountAfter (readOf file) before
+    check-amount h = h ∙ ap (λ (y : FileRead). amountAfter y before) e
 
 pub ruleset checks = (line-packs, check-number, check-answer, check-means, needs)

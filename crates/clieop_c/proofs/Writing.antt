@@ -4,7 +4,6 @@ use mathlib.Core.Path.{_≡_, refl, sym, ap, ap₂, subst, _∙_}
 use mathlib.Core.List.{List}
 use mathlib.Core.Bool.{Bool, true, false}
 use native.Mathlib.Omega.{arith}
-use borrow.Author.Needs.{needs}
 use borrow.Author.Tests.{eq-eqb, ne-eqb, eqb-true, eqb-false}
 use lib.ListN.{length}
 use lib.Dec.{leb, eqb}
@@ -16,23 +15,8 @@ use Rattle.rewriting.specs.Cities.{withoutCities}
 use Rattle.rewriting.specs.Rewriting.{answered, rewrittenOf}
 use Rattle.rewriting.specs.Promises.{Promised}
 use Rattle.rewriting.specs.declared.Rewritten.{Rewritten}
-use Rattle.clieop_c.specs.Returned.{packed, unpacked, writtenAfter, rewriteBy, rewriteFound}
+use Rattle.clieop_c.specs.Returned.{packed, unpacked, numberAfter, writtenAfter, rewriteBy, rewriteFound}
 use Rattle.clieop_c.proofs.Packing.{check-line}
-
--- ## How many bytes
-
-module _ (r : Rewritten) (before : ℕ) where
-  pub written-handed : {n : ℕ} → r .answer .number ≡ 0 → n ≡ r .written → n ≡ writtenAfter r before
-  unfolding writtenAfter pick
-  written-handed z e = e ∙ rw (eq-eqb _ _ z) refl
-
-  pub written-kept : (r .answer .number ≡ 0 → ⊥) → before ≡ writtenAfter r before
-  unfolding writtenAfter pick
-  written-kept z = rw (ne-eqb _ _ z) refl
-
-pub ruleset writtens = (written-handed, written-kept, needs)
-
--- ## What a caller finds
 
 -- an answer is a refusal that wrote nothing, or an acceptance
 data Shape (line : ℕ) : Rewritten → Type 0 where
@@ -50,7 +34,7 @@ unfolding rewrittenOf
 shape file room = shape-by (checkOf file) (eqb (checkOf file .number) 0) (leb (length (withoutCities file)) room) (length (withoutCities file)) refl
 
 found-shape : {line : ℕ} {w : Rewritten} (before : ℕ) → Shape line w → rewriteBy (w .answer) (writtenAfter w before) ≡ w
-unfolding rewriteBy writtenAfter pick
+unfolding rewriteBy numberAfter pick
 found-shape before (refusing number column z) = rw (ne-eqb number 0 z) refl
 found-shape before (writing number column n z) = rw (eq-eqb number 0 z) refl
 
@@ -65,9 +49,9 @@ module _ {w : Rewritten} (file : List ℕ) (room : ℕ) (e : w ≡ rewrittenOf f
   pub again-number : {r : ℕ} → r ≡ packed (w .answer) → r ≡ packed (rewrittenOf file room .answer)
   again-number n = n ∙ ap (λ (y : Rewritten). packed (y .answer)) e
 
-  module _ {n : ℕ} (before : ℕ) (h : n ≡ writtenAfter w before) where
+  module _ {n m : ℕ} (before : ℕ) (k : m ≡ w .written) (h : n ≡ numberAfter (w .answer) m before) where
     pub again-written : n ≡ writtenAfter (rewrittenOf file room) before
-    again-written = h ∙ ap (λ y. writtenAfter y before) e
+    again-written = h ∙ ap (λ p. numberAfter (w .answer) p before) k ∙ ap (λ y. writtenAfter y before) e
 
     module _ (r : ℕ) (u : unpacked r ≡ w .answer) where
       pub again-found : rewriteFound r n ≡ rewrittenOf file room

@@ -12,6 +12,7 @@ use Rattle.format.specs.Rules.{typeText, typeOf}
 use Rattle.format.specs.declared.TransactionType.{TransactionType}
 use Rattle.format.specs.declared.TypeRead.{TypeRead}
 use Rattle.format.specs.declared.TypeRead.the-variants.{Of, NoType}
+use Rattle.reading.specs.declared.FileRead.{FileRead}
 use Rattle.rewriting.specs.Rewriting.{answered}
 use Rattle.rewriting.specs.declared.Rewritten.{Rewritten}
 use Rattle.items.specs.Search.{noFields}
@@ -20,7 +21,7 @@ use Rattle.items.specs.Promises.{Promised}
 use Rattle.items.specs.declared.ItemFields.{ItemFields}
 use Rattle.items.specs.declared.ItemRead.{ItemRead}
 
--- ## The number returned
+-- ## Numbers
 
 -- the answer in the lowest byte, the column in the next, the line above them
 unfoldable pub packed : Answer → ℕ
@@ -30,11 +31,24 @@ packed a = a .number + 256 * a .column + 65536 * a .line
 unfoldable pub unpacked : ℕ → Answer
 unpacked r = refusal (r % 256) (r / 65536) (r / 256 % 256)
 
+-- what a lent number is after a call: with 0 only, what there is to say
+unfoldable pub numberAfter : Answer → ℕ → ℕ → ℕ
+numberAfter a n before = pick (eqb (a .number) accepted) n before
+
+-- ## The totals of a file
+
+-- how many items all its batches have, and their amounts in cents
+abbrev pub itemsAfter : FileRead → ℕ → ℕ
+itemsAfter r before = numberAfter (r .answer) (r .totals .items) before
+
+abbrev pub amountAfter : FileRead → ℕ → ℕ
+amountAfter r before = numberAfter (r .answer) (r .totals .amount) before
+
 -- ## A file written again
 
--- how many bytes were written, with 0 only
-unfoldable pub writtenAfter : Rewritten → ℕ → ℕ
-writtenAfter w before = pick (eqb (w .answer .number) accepted) (w .written) before
+-- how many bytes were written
+abbrev pub writtenAfter : Rewritten → ℕ → ℕ
+writtenAfter w before = numberAfter (w .answer) (w .written) before
 
 -- what a caller finds: the answer, and with 0 how many bytes
 unfoldable pub rewriteBy : Answer → ℕ → Rewritten

@@ -8,13 +8,14 @@ ghost use Rattle.reading.specs.Check.{checkOf};
 ghost use Rattle.file.specs.Meaning.{Means};
 ghost use Rattle.rewriting.specs.Rewriting.{rewrittenOf, roomAfter};
 ghost use Rattle.rewriting.specs.Promises.{Promised};
-ghost use Rattle.clieop_c.specs.Returned.{packed, unpacked, writtenAfter, rewriteFound};
+ghost use Rattle.clieop_c.specs.Returned.{packed, unpacked, numberAfter, writtenAfter, rewriteFound};
 use format::Answer;
-use rewriting::Rewritten;
 
 mod item;
+mod totals;
 
 pub use item::clieop_item;
+pub use totals::clieop_totals;
 
 // An answer in one number: it in the lowest byte, its column in the next, its line above them. (No line is above
 // 6,999,369,996, the one after the longest file.)
@@ -29,12 +30,12 @@ fn pack(a: Answer) -> u64
     number + column + line
 }
 
-// How many bytes were written, where they were.
-fn put_written(r: Rewritten, written: &mut u64)
-    ensures { λ _. ⌜ now (written .exit) ≡ writtenAfter r (now (written .entry)) ⌝ }
+// A number handed out, with answer 0 only.
+fn put_number(a: Answer, n: u64, lent: &mut u64)
+    ensures { λ _. ⌜ now (lent .exit) ≡ numberAfter a n (now (lent .entry)) ⌝ }
 {
-    if r.answer.number == 0 {
-        *written = r.written as u64;
+    if a.number == 0 {
+        *lent = n;
     }
 }
 
@@ -63,7 +64,7 @@ pub extern "C" fn clieop_rewrite(file: &[u8], out: &mut [u8], written: &mut u64)
     ensures again { λ r. ⌜ Promised (now (file .entry)) (rewriteFound r (now (written .exit))) (now (out .exit)) ⌝ }
 {
     let r = rewriting::rewrite(file, out);
-    put_written(r, written);
     let a = r.answer;
+    put_number(a, r.written as u64, written);
     pack(a)
 }

@@ -9,7 +9,7 @@ clieop-rewrite-spec =
     tie.close
     (tie.spec
     (λ c κs. search needs)  -- rewrite-requires
-    (λ c κs. search needs)  -- put-written-requires
+    (λ c κs. search needs)  -- put-number-requires
     (λ c κs. search (again-line, needs) depth 20 fits 10000)  -- pack-requires
     (λ c. search needs)  -- same-length
     (λ c. (search (again-number, needs) depth 20 fits 10000, (search (again-written, needs) depth 20 fits 10000, (search needs, (search (again-found, needs) depth 20 fits 10000, search (again-promised, needs) depth 20 fits 10000)))))  -- returns
