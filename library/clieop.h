@@ -1,4 +1,4 @@
-/* CLIEOP03 payment files: check a file, take an item out of it, write it again.
+/* CLIEOP03 payment files: check a file, add up its batches, take an item out of it, write it again.
  *
  * Each function returns one number with its answer, line and column, which the three macros below read. The answer is 0 where the file is
  * accepted; clieop(1) and docs/FORMAT.md have the table. An accepted file's line is its number of lines. What is lent is written with answer 0
@@ -25,6 +25,10 @@ extern "C" {
 
 /* The answer of a file. */
 uint64_t clieop_check(const uint8_t *file, size_t length);
+
+/* The answer of a file, and what all its batches come to: to `items` how many items they have, up to 999,900,000, and to `amount` their
+ * amounts in cents, up to 45,373,483,806,849,099. */
+uint64_t clieop_totals(const uint8_t *file, size_t length, uint64_t *items, uint64_t *amount);
 
 /* Item number `item` of batch number `batch`, both counted from 1.
  * numbers: type (0, 3, 5, 8, 1001 or 1002), amount in cents, payer, beneficiary; `count` is how many are lent.

@@ -88,6 +88,26 @@ static void unchecked(void)
     told("an ordinary account", clieop_check(wrong, length), 14, 6, 32);
 }
 
+/* the example, and with its batch a second time; a refusal leaves both numbers, whatever was closed before it */
+static void totals(void)
+{
+    uint8_t twice[16 * 52];
+    uint64_t items = 7, amount = 7;
+    memcpy(twice, file, 8 * width);
+    memcpy(twice + 8 * width, file + width, 8 * width);
+    twice[8 * width + 20] = '2';
+    told("totals and a byte after the trailer", clieop_totals(file, length + 1, &items, &amount), 11, LINES + 1, 0);
+    told("totals without a trailer", clieop_totals(twice, 15 * width, &items, &amount), 10, 16, 0);
+    expect("no items told", items, 7);
+    expect("no amount told", amount, 7);
+    told("totals", clieop_totals(file, length, &items, &amount), 0, LINES, 0);
+    expect("its items", items, 2);
+    expect("its amount", amount, 152550);
+    told("totals of two batches", clieop_totals(twice, 16 * width, &items, &amount), 0, 16, 0);
+    expect("items of both", items, 4);
+    expect("amount of both", amount, 305100);
+}
+
 /* numbers and texts of 01's example */
 static void item(void)
 {
@@ -167,9 +187,10 @@ static void rewrite(void)
 static void mixed(const char *end, const char *other)
 {
     uint8_t bytes[LINES * 52], texts[168], out[LINES * 52];
-    uint64_t numbers[4], written;
+    uint64_t items, amount, numbers[4], written;
     size_t filled = fill(bytes, end, other);
     told("the other end", clieop_check(bytes, filled), 1, 2, 0);
+    told("totals, the other end", clieop_totals(bytes, filled, &items, &amount), 1, 2, 0);
     told("an item, the other end", clieop_item(bytes, filled, 1, 2, texts, sizeof texts, numbers, 4), 1, 2, 0);
     told("written again, the other end", clieop_rewrite(bytes, filled, out, sizeof out, &written), 1, 2, 0);
 }
@@ -183,6 +204,7 @@ static void with(const char *end, const char *other)
     column();
     filler();
     unchecked();
+    totals();
     item();
     no_item();
     small_arrays();

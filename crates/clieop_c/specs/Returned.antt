@@ -31,7 +31,7 @@ packed a = a .number + 256 * a .column + 65536 * a .line
 unfoldable pub unpacked : ℕ → Answer
 unpacked r = refusal (r % 256) (r / 65536) (r / 256 % 256)
 
--- what a lent number is after a call: with 0 only, what there is to say
+-- a lent number after a call: with 0 only, the one handed out
 unfoldable pub numberAfter : Answer → ℕ → ℕ → ℕ
 numberAfter a n before = pick (eqb (a .number) accepted) n before
 

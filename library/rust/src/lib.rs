@@ -1,12 +1,18 @@
 //! CLIEOP03 payment files, over the proved library: every call is total, and
 //! the answers are those of `docs/FORMAT.md`.
 //!
-//! `unsafe` stands in this file only, in the three calls; each passes slices as
+//! `unsafe` stands in this file only, in the four calls; each passes slices as
 //! pointer and length, which is what the library is proved for.
 
 mod c {
     extern "C" {
         pub fn clieop_check(file: *const u8, length: usize) -> u64;
+        pub fn clieop_totals(
+            file: *const u8,
+            length: usize,
+            items: *mut u64,
+            amount: *mut u64,
+        ) -> u64;
         pub fn clieop_item(
             file: *const u8,
             length: usize,
@@ -51,6 +57,14 @@ impl Answer {
     }
 }
 
+/// What all batches of a file come to: how many items they have, and their
+/// amounts in cents.
+#[derive(Clone, Copy, Debug, PartialEq, Eq)]
+pub struct Totals {
+    pub items: u64,
+    pub amount: u64,
+}
+
 /// An item of a file: its type as a number, its amount in cents, its accounts
 /// and its texts, with spaces where there are none.
 #[derive(Clone, Copy, Debug, PartialEq, Eq)]
@@ -67,6 +81,20 @@ pub struct Item {
 /// The answer of a whole file; an accepted one's line is its number of lines.
 pub fn check(file: &[u8]) -> Answer {
     Answer::unpacked(unsafe { c::clieop_check(file.as_ptr(), file.len()) })
+}
+
+/// What all batches of a file come to, or its refusal.
+pub fn totals(file: &[u8]) -> Result<Totals, Answer> {
+    let mut items = 0;
+    let mut amount = 0;
+    let answer = Answer::unpacked(unsafe {
+        c::clieop_totals(file.as_ptr(), file.len(), &mut items, &mut amount)
+    });
+    if answer.is_accepted() {
+        Ok(Totals { items, amount })
+    } else {
+        Err(answer)
+    }
 }
 
 /// Item number `item` of batch number `batch`, both counted from 1.

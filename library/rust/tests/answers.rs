@@ -1,6 +1,6 @@
 //! Answers of document 01 with either line end, asked through the library.
 
-use clieop::{check, item, rewrite, Answer, Item};
+use clieop::{check, item, rewrite, totals, Answer, Item, Totals};
 
 /// Lines filled to 50 with spaces, each with its line end.
 fn file(lines: &[&str]) -> Vec<u8> {
@@ -57,6 +57,7 @@ fn a_second_line_with_the_other_end_is_broken() {
     let other_mixed = [&other[..51], &bytes[52..2 * 52], &other[2 * 51..]].concat();
     for bytes in [mixed, other_mixed] {
         assert_eq!(check(&bytes), answer(1, 2, 0));
+        assert_eq!(totals(&bytes), Err(answer(1, 2, 0)));
         assert_eq!(item(&bytes, 1, 2), Err(answer(1, 2, 0)));
         assert_eq!(rewrite(&bytes, &mut []), Err(answer(1, 2, 0)));
     }
@@ -68,6 +69,7 @@ fn an_unchecked_salary_to_nine_digits_is_refused_at_its_account() {
     let bytes = text.replace("1234567890000001234", "1234567890111111110").into_bytes();
     for bytes in [alone(&bytes), bytes] {
         assert_eq!(check(&bytes), answer(14, 6, 32));
+        assert_eq!(totals(&bytes), Err(answer(14, 6, 32)));
         assert_eq!(item(&bytes, 1, 1), Err(answer(14, 6, 32)));
         assert_eq!(rewrite(&bytes, &mut []), Err(answer(14, 6, 32)));
     }
@@ -95,8 +97,32 @@ fn a_wrong_sum_of_accounts_names_its_column() {
     let mut bytes = example();
     bytes[7 * 52 + 32] = b'3';
     assert_eq!(check(&bytes), answer(9, 8, 24));
+    assert_eq!(totals(&bytes), Err(answer(9, 8, 24)));
     assert_eq!(item(&bytes, 1, 1), Err(answer(9, 8, 24)));
     assert_eq!(rewrite(&bytes, &mut []), Err(answer(9, 8, 24)));
+}
+
+#[test]
+fn the_totals_of_the_example_are_those_of_its_batch() {
+    for bytes in examples() {
+        assert_eq!(totals(&bytes), Ok(Totals { items: 2, amount: 152550 }));
+    }
+}
+
+#[test]
+fn the_totals_of_two_batches_are_their_sums() {
+    let bytes = example();
+    let text = String::from_utf8(example()).unwrap();
+    let second = text.replace("7890001EUR", "7890002EUR").into_bytes();
+    let both = [&bytes[..8 * 52], &second[52..]].concat();
+    for both in [alone(&both), both] {
+        assert_eq!(totals(&both), Ok(Totals { items: 4, amount: 305100 }));
+    }
+}
+
+#[test]
+fn a_file_that_ends_early_has_no_totals_though_its_batch_is_closed() {
+    assert_eq!(totals(&example()[..8 * 52]), Err(answer(10, 9, 0)));
 }
 
 #[test]
