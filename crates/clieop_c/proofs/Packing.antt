@@ -19,7 +19,8 @@ use Rattle.reading.specs.declared.FileRead.{FileRead}
 use Rattle.reading.proofs.Limits.{within-line}
 use Rattle.reading.proofs.Answers.{rest-named}
 use Rattle.file.specs.Meaning.{Means}
-use Rattle.clieop_c.specs.Returned.{packed, unpacked, numberAfter, itemsAfter, amountAfter}
+use Rattle.file.specs.Totals.{Sums, Totalled}
+use Rattle.clieop_c.specs.Returned.{packed, unpacked, numberAfter, itemsAfter, amountAfter, TotalsFound}
 
 -- WHAT WAS PACKED IS READ BACK
 module _ (a : Answer) (n : a .number < 256) (c : a .column < 256) where
@@ -94,5 +95,14 @@ module _ {x : FileRead} (file : List ℕ) (e : x ≡ readOf file) where
 
     pub check-amount : n ≡ amountAfter x before → n ≡ amountAfter (readOf file) before
     check-amount h = h ∙ ap (λ (y : FileRead). amountAfter y before) e
+
+  -- the totals of a file that is accepted
+  module _ {items amount : ℕ} (i j : ℕ) where
+    pub check-totals : Means file (x .answer) → Totalled file (x .answer) (x .totals) → items ≡ itemsAfter x i → amount ≡ amountAfter x j → TotalsFound file items amount
+    unfolding TotalsFound numberAfter pick
+    check-totals m t a b = λ f r.
+        let z = eq-eqb (x .answer .number) 0 (m .accepted-exactly .1 (f, r)) in
+        let w = t .whole f r in
+        record { items = a ∙ rw z (w .items); amount = b ∙ rw z (w .amount) }
 
 pub ruleset checks = (line-packs, check-number, check-answer, check-means, needs)

@@ -9,10 +9,12 @@ use Rattle.machine.specs.Digits.{valueOf, decimal}
 use Rattle.format.specs.Answers.{accepted, refusal}
 use Rattle.format.specs.declared.Answer.{Answer}
 use Rattle.format.specs.Rules.{typeText, typeOf}
+use Rattle.format.specs.Language.{File, Reads}
 use Rattle.format.specs.declared.TransactionType.{TransactionType}
 use Rattle.format.specs.declared.TypeRead.{TypeRead}
 use Rattle.format.specs.declared.TypeRead.the-variants.{Of, NoType}
 use Rattle.reading.specs.declared.FileRead.{FileRead}
+use Rattle.file.specs.Totals.{Sums}
 use Rattle.rewriting.specs.Rewriting.{answered}
 use Rattle.rewriting.specs.declared.Rewritten.{Rewritten}
 use Rattle.items.specs.Search.{noFields}
@@ -43,6 +45,10 @@ itemsAfter r before = numberAfter (r .answer) (r .totals .items) before
 
 abbrev pub amountAfter : FileRead → ℕ → ℕ
 amountAfter r before = numberAfter (r .answer) (r .totals .amount) before
+
+-- what a caller finds: of a file of the language the sums over its batches' items
+unfoldable pub TotalsFound : List ℕ → ℕ → ℕ → Type 0
+TotalsFound file items amount = (f : File) → Reads file f → Sums (record { items = items; amount = amount }) (f .batches)
 
 -- ## A file written again
 
