@@ -55,6 +55,10 @@ cases =
       other-end-after-trailer = refl;
       same-end = refl;
       beyond-limits = refl;
+      trailer-totals = refl;
+      largest-totals = refl;
+      items-beyond = refl;
+      amount-beyond = refl;
       header-bytes = refl;
       trailer-bytes = refl;
       sum-with-carry = record { sum-of = refl; item-written = refl; digits-written = refl; trailer-written = refl };

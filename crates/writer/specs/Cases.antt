@@ -11,6 +11,7 @@ use Rattle.format.specs.declared.EndingSoFar.the-variants.{CrLf, Lf}
 use Rattle.format.specs.declared.Group.the-variants.{Payments}
 use Rattle.format.specs.declared.TransactionType.the-variants.{UncheckedCreditor, Salary}
 use Rattle.record.specs.Faults.{nothingBefore, afterHeader, noTotals}
+use Rattle.record.specs.declared.Totals.{Totals}
 use Rattle.reading.specs.State.{noItem, startState}
 use Rattle.reading.specs.Step.{withEnding}
 use Rattle.reading.specs.declared.Stage.{Stage}
@@ -29,17 +30,20 @@ use Rattle.writer.specs.declared.Written.{Written}
 abbrev pub letters : ℕ → List ℕ
 letters n = replicate n 65 ++ spaces (35 - n)
 
--- a batch of group 00 at a stage, after so many lines
-abbrev pub batchAt : ℕ → Stage → Name → State
-batchAt line p name =
+-- a batch of group 00 after batches that come to so much, at a stage, after so many lines
+abbrev pub batchAfter : Totals → ℕ → Stage → Name → State
+batchAfter totals line p name =
     record {
       line = line;
       stage = p;
       before = afterHeader nothingBefore Payments 1;
       batch = record { account = 123456789; items = 1; total = 15000; accounts = 123458023; fixed = 0 };
-      totals = noTotals;
+      totals = totals;
       item = record { name = name; reference = false; descriptions = 0 };
     }
+
+abbrev pub batchAt : ℕ → Stage → Name → State
+batchAt line p name = batchAfter noTotals line p name
 
 abbrev pub salaryOf : ℕ → Entry
 salaryOf amount = Transaction (record { kind = Salary; amount = amount; payer = 123456789; beneficiary = 1234 })
@@ -114,6 +118,11 @@ pub record Cases : Type 0 where
   pub other-end-after-trailer : Answers (withEnding Lf (batchAt 6 stage.Done Unwanted)) FileTrailer (letters 0) 52 (refusal 11 7 0)
   pub same-end : Answers (withEnding CrLf (batchAt 5 stage.Closed Unwanted)) FileTrailer (letters 0) 52 (acceptance 6)
   pub beyond-limits : Answers (batchAt 7000000000 stage.Closed Unwanted) FileTrailer (letters 0) 52 (refusal 24 0 0)
+  -- 02's [5], 'The writer's state gets the same two numbers': a trailer that is written adds to them; 24 above either limit, and not at both
+  pub trailer-totals : writtenOf (batchAt 4 stage.Item Unwanted) BatchTrailer (letters 0) 52 .next .totals ≡ record { items = 1; amount = 15000 }
+  pub largest-totals : Answers (batchAfter (record { items = 999900000; amount = 45373483806849099 }) 5 stage.Closed Unwanted) FileTrailer (letters 0) 52 (acceptance 6)
+  pub items-beyond : Answers (batchAfter (record { items = 999900001; amount = 0 }) 5 stage.Closed Unwanted) FileTrailer (letters 0) 52 (refusal 24 0 0)
+  pub amount-beyond : Answers (batchAfter (record { items = 0; amount = 45373483806849100 }) 5 stage.Closed Unwanted) FileTrailer (letters 0) 52 (refusal 24 0 0)
   -- the bytes of a line: 0001A150309CLIEOP03AAAAA15011, and the trailer's numbers from the state
   pub header-bytes : lineFor startState (FileHeader 150309 1501 1) (letters 5) ≡ 48 ∷ 48 ∷ 48 ∷ 49 ∷ 65 ∷ 49 ∷ 53 ∷ 48 ∷ 51 ∷ 48 ∷ 57 ∷ 67 ∷ 76 ∷ 73 ∷ 69 ∷ 79 ∷ 80 ∷ 48 ∷ 51 ∷ 65 ∷ 65 ∷ 65 ∷ 65 ∷ 65 ∷ 49 ∷ 53 ∷ 48 ∷ 49 ∷ 49 ∷ (spaces 21 ++ lineEnd)
   pub trailer-bytes : lineFor (batchAt 4 stage.Item Unwanted) BatchTrailer (letters 0) ≡ 57 ∷ 57 ∷ 57 ∷ 48 ∷ 65 ∷ 48 ∷ 48 ∷ 48 ∷ 48 ∷ 48 ∷ 48 ∷ 48 ∷ 48 ∷ 48 ∷ 48 ∷ 48 ∷ 48 ∷ 48 ∷ 49 ∷ 53 ∷ 48 ∷ 48 ∷ 48 ∷ 48 ∷ 49 ∷ 50 ∷ 51 ∷ 52 ∷ 53 ∷ 56 ∷ 48 ∷ 50 ∷ 51 ∷ 48 ∷ 48 ∷ 48 ∷ 48 ∷ 48 ∷ 48 ∷ 49 ∷ (spaces 10 ++ lineEnd)
