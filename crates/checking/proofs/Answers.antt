@@ -10,8 +10,8 @@ use Rattle.reading.specs.Step.{stepAt}
 use Rattle.reading.specs.declared.State.{State}
 use Rattle.reading.specs.declared.LineRead.{LineRead}
 use Rattle.file.specs.Reached.{at-start, one-step, InRun}
-use Rattle.file.specs.Totals.{SumsAfter}
-use Rattle.file.proofs.Along.{reached-sums}
+use Rattle.file.specs.Totals.{RunTotals}
+use Rattle.file.proofs.Completing.{reached-totals}
 use Rattle.streams.specs.Taking.{leftIn}
 use Rattle.streams.specs.declared.lines.Lines.{Lines}
 use Rattle.checking.specs.Answered.{Answered}
@@ -31,7 +31,7 @@ answered-by l s bytes h n e =
       next = n;
       answer = ap (λ (x : LineRead). x .answer) e;
       state = ap (λ (x : LineRead). x .next) e;
-      totals = subst⁻¹ (λ (x : LineRead). SumsAfter (x .next .line) (h .0 ++ take (stepAt s bytes .bytes) bytes) (x .next .totals)) e (reached-sums (one-step bytes (h .1)));
+      totals = subst⁻¹ (λ (x : LineRead). RunTotals (h .0 ++ take (stepAt s bytes .bytes) bytes) (x .next)) e (reached-totals (one-step bytes (h .1)));
     }
 
 pub reached-after : (c : Checked) (buffer : List ℕ) → Answered c buffer → InRun (c .state)

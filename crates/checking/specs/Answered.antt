@@ -7,7 +7,7 @@ use Rattle.format.specs.Cutting.{nextLine}
 use Rattle.reading.specs.Step.{stepAt}
 use Rattle.reading.specs.declared.State.{State}
 use Rattle.file.specs.Reached.{Reached}
-use Rattle.file.specs.Totals.{SumsAfter}
+use Rattle.file.specs.Totals.{RunTotals}
 use Rattle.streams.specs.Taking.{leftIn}
 use Rattle.checking.specs.declared.Checked.{Checked}
 
@@ -20,5 +20,5 @@ pub record Answered (c : Checked) (buffer : List ℕ) : Type 0 where
   pub next : bytes ≡ nextLine (leftIn (c .lines) buffer)
   pub answer : c .answer ≡ stepAt before bytes .answer
   pub state : c .state ≡ stepAt before bytes .next
-  -- THE TOTALS are the sums over the items of the batches that the lines read close, of every file that they can be completed to
-  pub totals : SumsAfter (c .state .line) (read ++ take (stepAt before bytes .bytes) bytes) (c .state .totals)
+  -- its totals are the sums over the items of the batches that the lines read close
+  pub totals : RunTotals (read ++ take (stepAt before bytes .bytes) bytes) (c .state)

@@ -19,7 +19,7 @@ use Rattle.reading.specs.declared.FileRead.{FileRead}
 use Rattle.reading.proofs.Limits.{within-line}
 use Rattle.reading.proofs.Answers.{rest-named}
 use Rattle.file.specs.Meaning.{Means}
-use Rattle.file.specs.Totals.{Sums, Totalled}
+use Rattle.file.specs.Totals.{Totalled}
 use Rattle.clieop_c.specs.Returned.{packed, unpacked, numberAfter, itemsAfter, amountAfter, TotalsFound}
 
 -- WHAT WAS PACKED IS READ BACK

@@ -1,9 +1,9 @@
 -- THE TOTALS OF A RUN: a state of a run goes along the records of every file that begins with the lines read, and its totals are the sums over the batches that these close. Assumes nothing.
-use mathlib.Core.Path.{_≡_, refl, sym, ap, ap₂, _∙_, subst}
+use mathlib.Core.Path.{_≡_, refl, sym, ap, _∙_, subst}
 use mathlib.Core.List.{List, [], _∷_, _++_, append-assoc, append-nil}
 use mathlib.Core.Bool.{Bool, true, false}
 use mathlib.Core.Option.{none, some}
-use Prim.Native.Nat.{ℕ, suc, _+_}
+use Prim.Native.Nat.{ℕ}
 use native.Mathlib.Omega.{arith}
 use borrow.Author.Tests.{eq-eqb, eqb-true, eqb-false}
 use lib.ListN.{length, take, length-append}
@@ -18,24 +18,22 @@ use Rattle.format.specs.Cutting.{noEnding, cutOf, nextLine, cut}
 use Rattle.format.specs.declared.Answer.{Answer}
 use Rattle.format.specs.declared.Kind.{Kind}
 use Rattle.format.specs.declared.Kind.the-variants.{FileHeader, BatchHeaderB, BatchHeaderC, FixedDescription, OrderingParty, Transaction, NamePayer, CityPayer, PaymentReference, Description, NameBeneficiary, CityBeneficiary, BatchTrailer, FileTrailer}
-use Rattle.format.proofs.Every.{every}
 use Rattle.format.proofs.Reader.{Phase, Context, at, Place, batch-trailer, advance, step, Ok, Path, end, go}
 use Rattle.format.proofs.Link.{line-code, is-line, line-is-taken}
-use Rattle.format.proofs.Cutting.{Line, Whole, whole-line, next-fifty, all-open, cut-by}
+use Rattle.format.proofs.Cutting.{Line, whole-line, next-fifty, all-open, cut-by}
 use Rattle.format.proofs.Complete.{complete}
 use Rattle.record.specs.Faults.{noTotals, fieldsOf}
+use Rattle.record.specs.Kinds.{isBatchTrailer}
 use Rattle.record.specs.declared.Record.{Record}
-use Rattle.record.specs.declared.Totals.{Totals}
 use Rattle.record.proofs.Coding.{one-kind}
-use Rattle.reading.specs.Step.{withBatch, nextFor, refused, taken, judgedAs, judgedKind, judgedLine, judgedFirst, nothingRead, readBy, stepAt}
+use Rattle.reading.specs.Step.{withBatch, nextFor, taken, judgedAs, judgedKind, judgedLine, judgedFirst, refusalBy, nothingRead, readBy, stepAt}
 use Rattle.reading.specs.declared.State.{State}
 use Rattle.reading.specs.declared.Judged.{Judged}
 use Rattle.reading.specs.declared.LineRead.{LineRead}
-use Rattle.reading.proofs.Verdicts.{next-line, First, beyond, halted, moved, first, takenAs, Taken, takes}
-use Rattle.reading.proofs.Answers.{step-first}
+use Rattle.reading.proofs.Verdicts.{next-line, next-totals, first, refused-next, takenAs, Taken, takes}
 use Rattle.file.specs.Reached.{Reached, at-start, one-step}
-use Rattle.file.specs.Totals.{isTrailer, closedBy, Sums, SumsAfter}
-use Rattle.file.proofs.Places.{phaseOf, contextOf, placeOf}
+use Rattle.file.specs.Totals.{closedBy, Sums, SumsAfter}
+use Rattle.file.proofs.Places.{contextOf, placeOf}
 use Rattle.file.proofs.Lines.{Agrees, goes, stops, line-agrees}
 use Rattle.file.proofs.Run.{step-next}
 use Rattle.file.proofs.Totals.{addFor, addAll, add-then, first-sums}
@@ -46,11 +44,6 @@ pub data Stepped (s : State) (b : List ℕ) : LineRead → Type 0 where
   stayed : (a : Answer) → Stepped s b (nothingRead s a)
   went : (t : Taken s b) (a : Answer) (r : Record) (x : List ℕ) → Stepped s b (record { answer = a; next = takenAs s (t .kind) b .next; bytes = cutOf b .bytes; read = r; text = x })
 
-refused-stays : {s : State} {b : List ℕ} {j : Judged} → First s b j → (j .number ≡ 0 → ⊥) → Stepped s b (readBy (take 50 b) (j .code) j)
-refused-stays (beyond w) z = stayed _
-refused-stays (halted w c n y) z = stayed _
-refused-stays (moved w k c a f) z = absurd (z refl)
-
 some-stepped : (s : State) (b : List ℕ) → Stepped s b (readBy (take 50 b) (judgedFirst s b .code) (judgedFirst s b))
 some-stepped s b = by (eqb (judgedFirst s b .number) 0) refl
   where
@@ -58,12 +51,15 @@ some-stepped s b = by (eqb (judgedFirst s b .number) 0) refl
     by true e =
         let t = takes s b (eqb-true (judgedFirst s b .number) 0 e) in
         subst (λ (j : Judged). Stepped s b (readBy (take 50 b) (j .code) j)) (sym (t .is)) (went t _ _ _)
-    by false e = refused-stays (first s b) (eqb-false (judgedFirst s b .number) 0 e)
+    by false e =
+        let j = judgedFirst s b in
+        let w = refused-next (first s b) (eqb-false (j .number) 0 e) in
+        subst (λ c. Stepped s b (readBy (take 50 b) c j)) (sym (w .1)) (subst (λ u. Stepped s b (nothingRead u (refusalBy j))) (sym (w .0)) (stayed _))
 
-pub stepped : (s : State) (b : List ℕ) → Stepped s b (stepAt s b)
+pub step-cases : (s : State) (b : List ℕ) → Stepped s b (stepAt s b)
 unfolding stepAt
-stepped s [] = stayed _
-stepped s (x ∷ xs) = some-stepped s (x ∷ xs)
+step-cases s [] = stayed _
+step-cases s (x ∷ xs) = some-stepped s (x ∷ xs)
 
 -- ## The first of the records that a reader still goes over
 
@@ -105,12 +101,8 @@ next-of (go {s = c} {rs = rs} k x pl o q) y z line rest l e =
 
 -- ## What a record brings to the totals
 
-brings : (s : State) (k : Kind) (y : Fields k) → nextFor s k y .totals ≡ pick (isTrailer k) (withBatch (s .totals) (s .batch)) (s .totals)
-unfolding pick
-brings s = every (λ k. (y : Fields k) → nextFor s k y .totals ≡ pick (isTrailer k) (withBatch (s .totals) (s .batch)) (s .totals)) (λ y. refl) (λ y. refl) (λ y. refl) (λ y. refl) (λ y. refl) (λ y. refl) (λ y. refl) (λ y. refl) (λ y. refl) (λ y. refl) (λ y. refl) (λ y. refl) (λ y. refl) (λ y. refl)
-
 -- a trailer that is right says what the batch has
-says : (s : State) {p : Phase} (k : Kind) (pl : Place p k) (x : Fields k) → Ok pl (contextOf (s .before) (s .batch)) x → pick (isTrailer k) (withBatch (s .totals) (s .batch)) (s .totals) ≡ addFor (s .totals) k x
+says : (s : State) {p : Phase} (k : Kind) (pl : Place p k) (x : Fields k) → Ok pl (contextOf (s .before) (s .batch)) x → pick (isBatchTrailer k) (withBatch (s .totals) (s .batch)) (s .totals) ≡ addFor (s .totals) k x
 unfolding pick
 says s FileHeader pl x o = refl
 says s BatchHeaderB pl x o = refl
@@ -163,7 +155,7 @@ one-along {f} {z} {rest} {s} {b} t a =
     = sym (agreed (line-agrees s (take 50 b)) (t .kind) u (line-taken t)) ∙ sym (step-next s b) ∙ ap (step (placeOf s)) (n .is-record) ∙ line-is-taken (n .place) ctx (n .fields) (n .ok) (endBytes z) in
     let place : placeOf u ≡ advance (n .place) ctx (n .fields) = cc in
     let added : u .totals ≡ addFor (s .totals) (n .kind) (n .fields)
-    = brings s (t .kind) y ∙ ap (λ k. pick (isTrailer k) (withBatch (s .totals) (s .batch)) (s .totals)) m ∙ says s (n .kind) (n .place) (n .fields) (n .ok) in
+    = next-totals s (t .kind) y ∙ ap (λ k. pick (isBatchTrailer k) (withBatch (s .totals) (s .batch)) (s .totals)) m ∙ says s (n .kind) (n .place) (n .fields) (n .ok) in
     record {
       done = a .done ++ (r ∷ []);
       others = n .others;
@@ -183,7 +175,7 @@ along-step lines {b = b} (went t a r x) f z rest ih e = one-along t (ih (nextLin
 pub along : {lines : List ℕ} {s : State} → Reached lines s → (f : File) → Valid f → (z : Ending) (rest : List ℕ) → lines ++ rest ≡ linesOf (endBytes z) (fileRecs f) → Along f z rest s
 unfolding pick
 along at-start f v z rest e = record { done = []; others = fileRecs f; records = refl; count = refl; is-rest = e; path = complete f v; totals = refl }
-along (one-step {lines} {s} bytes r) f v z rest e = along-step lines (stepped s bytes) f z rest (λ q h. along r f v z q h) e
+along (one-step {lines} {s} bytes r) f v z rest e = along-step lines (step-cases s bytes) f z rest (λ q h. along r f v z q h) e
 
 -- OF EVERY STATE OF A RUN
 pub reached-sums : {lines : List ℕ} {s : State} → Reached lines s → SumsAfter (s .line) lines (s .totals)

@@ -58,7 +58,7 @@ uncheckeds = (refl, (refl, (refl, (refl, (refl, (refl, (refl, (refl, (refl, (ref
 
 totals : Each totalCases
 unfolding pick same digitsOnto decimal valueAfter daysIn isDate isDesiredDate isTestCode isIdentification isOfDay weighted isEleven isOrderingAccount isAccount isOwnIf isSevenIf isNameCodeIn typeOf fieldAnswer firstOr codeOf debitCode batchCode fileCode firstFault faultOf areWithin isLimited within mayOpen mayFix mayEnd mayPay mayName allowed judgedAs judgedKind judgedLine cutOf withCut judgedFirst endedAt linesFrom judgedAfter judgedLines totalsAfter totalsOf stepAt
-totals = (refl, (refl, (refl, (refl, (refl, (refl, (refl, (refl, ((refl, refl, refl), ((refl, refl, refl), ((refl, refl, refl), tt)))))))))))
+totals = (refl, (refl, (refl, (refl, (refl, (refl, (refl, (refl, (refl, ((refl, refl, refl), ((refl, refl, refl), ((refl, refl, refl), tt))))))))))))
 
 pub worked : Right cases
 worked = (accounts, (amounts, (sums, (dates, (descriptions, (sequences, (orders, (files, (endings, (uncheckeds, (totals, tt)))))))))))

@@ -13,6 +13,7 @@ pub mod Meaning
 pub mod Totals
 pub mod Along
 pub mod Totalled
+pub mod Completing
 pub mod Paying
 pub mod Longest
 pub mod Example

@@ -1,4 +1,4 @@
--- No state of a run is beyond 01's limits, and no step of a run is answered 24. Assumes nothing.
+-- No state of a run is beyond the limits, and no step of a run is answered 24. Assumes nothing.
 use Prim.Native.Nat.{ℕ, _+_}
 use mathlib.Core.Path.{_≡_, refl, sym, subst}
 use mathlib.Core.Logic.{_≢_}

@@ -29,7 +29,7 @@ use Rattle.reading.specs.declared.Judged.{Judged}
 use Rattle.reading.specs.declared.LineRead.{LineRead}
 use Rattle.reading.specs.declared.FileRead.{FileRead}
 use Rattle.reading.proofs.Limits.{within-limited}
-use Rattle.reading.proofs.Verdicts.{next-line, First, beyond, halted, moved, first, takenAs, Taken, takes}
+use Rattle.reading.proofs.Verdicts.{next-line, first, refused-next, takenAs, Taken, takes}
 use Rattle.reading.proofs.Running.{first-own, goingOn}
 use Rattle.reading.proofs.Runs.{judged, ended-file}
 use Rattle.reading.proofs.Answers.{step-first}
@@ -42,11 +42,11 @@ use Rattle.file.proofs.Along.{along, reached-sums}
 
 -- ## The lines that are read: those before the one that is refused, or all
 
-record Gone (lines b : List ℕ) (from : State) (j : Judged) : Type 0 where
-  count : ℕ
-  line : j .next .line ≡ from .line + count
-  run : Reached (lines ++ front cut turn (from .before .ending) count b) (j .next)
-  whole : j .number ≡ 0 → front cut turn (from .before .ending) count b ≡ b
+pub record Gone (lines b : List ℕ) (from : State) (j : Judged) : Type 0 where
+  pub count : ℕ
+  pub line : j .next .line ≡ from .line + count
+  pub run : Reached (lines ++ front cut turn (from .before .ending) count b) (j .next)
+  pub whole : j .number ≡ 0 → front cut turn (from .before .ending) count b ≡ b
 
 none-gone : {lines : List ℕ} {s : State} {b : List ℕ} (j : Judged) → Reached lines s → j .next ≡ s → (j .number ≡ 0 → [] ≡ b) → Gone lines b s j
 unfolding front
@@ -57,11 +57,6 @@ none-gone {lines} {s} j r e w =
       run = subst (Reached (lines ++ [])) (sym e) (subst (λ l. Reached l s) (sym (append-nil lines)) r);
       whole = w;
     }
-
-refused-stays : {s : State} {b : List ℕ} {j : Judged} → First s b j → (j .number ≡ 0 → ⊥) → j .next ≡ s
-refused-stays (beyond w) z = refl
-refused-stays (halted w c n y) z = refl
-refused-stays (moved w k c a f) z = absurd (z refl)
 
 module _ {s : State} {b : List ℕ} (t : Taken s b) (lines : List ℕ) where
   read-on : 0 < length b → Reached lines s → Reached (lines ++ nextLine b) (takenAs s (t .kind) b .next)
@@ -92,7 +87,7 @@ goes : (s : State) (b : List ℕ) (ls : List (List ℕ)) (lines : List ℕ) → 
     → (q : Bool) → eqb (judgedFirst s b .number) 0 ≡ q → Gone lines b s (pick q (judgedAfter (judgedFirst s b) ls) (judgedFirst s b))
 unfolding pick
 goes s b ls lines h r on true e = let t = takes s b (eqb-true (judgedFirst s b .number) 0 e) in subst (λ i. Gone lines b s (judgedAfter i ls)) (sym (t .is)) (one-gone t lines (on t))
-goes s b ls lines h r on false e = let z = eqb-false (judgedFirst s b .number) 0 e in none-gone (judgedFirst s b) r (refused-stays (first s b) z) (λ y. absurd (z y))
+goes s b ls lines h r on false e = let z = eqb-false (judgedFirst s b .number) 0 e in none-gone (judgedFirst s b) r (refused-next (first s b) z .0) (λ y. absurd (z y))
 
 gone : (j : Judged) {b : List ℕ} {ls : List (List ℕ)} → Lined b ls → (lines : List ℕ) → Reached lines (j .next) → Gone lines b (j .next) (judgedAfter j ls)
 unfolding judgedAfter
@@ -103,7 +98,7 @@ gone j (one-line {x} {xs} {lines = ls} l) lines r =
     subst (λ i. Gone lines b s (goingOn i ls)) (sym (first-own s b))
     (goes s b ls lines (omega arith) r (λ t. gone (takenAs s (t .kind) b) l (lines ++ nextLine b) (read-on t lines (omega arith) r)) (eqb (judgedFirst s b .number) 0) refl)
 
-all-gone : (b : List ℕ) → Gone [] b startState (judged b)
+pub all-gone : (b : List ℕ) → Gone [] b startState (judged b)
 all-gone b = gone (refused startState 0 0) (lined 0 b) [] at-start
 
 -- ## The line that a refusal names is the one after them
@@ -138,7 +133,7 @@ whole-file b r f q =
     let all : fileRecs f ≡ a .done = a .records ∙ ap (λ rs. a .done ++ rs) (no-others (a .path) z (a .is-rest)) ∙ append-nil (a .done) in
     subst (λ t. Sums t (f .batches)) (ap (addAll noTotals) all ∙ sym (a .totals)) (whole-sums f)
 
-totals-are : (b : List ℕ) → (totalsOf b ≡ judged b .next .totals) × (checkOf b ≡ answerBy (judged b))
+pub totals-are : (b : List ℕ) → (totalsOf b ≡ judged b .next .totals) × (checkOf b ≡ answerBy (judged b))
 unfolding checkOf restOf totalsOf totalsAfter judgedLines within isLimited areWithin pick
 totals-are b = (refl, refl)
 

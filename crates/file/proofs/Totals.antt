@@ -5,6 +5,7 @@ use mathlib.Core.Bool.{false}
 use Prim.Native.Nat.{ℕ, zero, suc, _+_}
 use native.Mathlib.Omega.{arith}
 use lib.ListN.{length, take}
+use lib.Seq.{take-length}
 use lib.Dec.{T}
 use Rattle.machine.specs.Lists.{pick}
 use Rattle.machine.proofs.Base.{true≢false}
@@ -14,9 +15,10 @@ use Rattle.format.specs.declared.Kind.{Kind}
 use Rattle.format.specs.declared.Kind.the-variants.{FileHeader, BatchHeaderB, BatchHeaderC, FixedDescription, OrderingParty, Transaction, NamePayer, CityPayer, PaymentReference, Description, NameBeneficiary, CityBeneficiary, BatchTrailer, FileTrailer}
 use Rattle.format.specs.declared.Group.{Group}
 use Rattle.format.proofs.Every.{every}
+use Rattle.record.specs.Kinds.{isBatchTrailer}
 use Rattle.record.specs.Faults.{noTotals}
 use Rattle.record.specs.declared.Totals.{Totals}
-use Rattle.file.specs.Totals.{itemsIn, amountIn, Sums, isTrailer, trailersIn, closedBy}
+use Rattle.file.specs.Totals.{itemsIn, amountIn, Sums, trailersIn, closedBy}
 use Rattle.file.proofs.Passing.{isText, item-passed, head-passed}
 
 -- ## What trailers say
@@ -64,19 +66,19 @@ none-summed = record { first = none; all = refl }
     none (suc n) t = omega arith
 
 -- a record that is no trailer
-other : (bs : List Batch) (k : Kind) → isTrailer k ≡ false → (x : Fields k) (rs : List Rec) → Summed bs rs → Summed bs ((k, x) ∷ rs)
+other : (bs : List Batch) (k : Kind) → isBatchTrailer k ≡ false → (x : Fields k) (rs : List Rec) → Summed bs rs → Summed bs ((k, x) ∷ rs)
 unfolding pick
 other bs k h x rs s = record { first = by; all = rw h (s .all) }
   where
     same : (t : Totals) → addFor t k x ≡ t
-    same t = every (λ k. isTrailer k ≡ false → (x : Fields k) → addFor t k x ≡ t) (λ h x. refl) (λ h x. refl) (λ h x. refl) (λ h x. refl) (λ h x. refl) (λ h x. refl) (λ h x. refl) (λ h x. refl) (λ h x. refl) (λ h x. refl) (λ h x. refl) (λ h x. refl) (λ h x. absurd (true≢false h)) (λ h x. refl) k h x
+    same t = every (λ k. isBatchTrailer k ≡ false → (x : Fields k) → addFor t k x ≡ t) (λ h x. refl) (λ h x. refl) (λ h x. refl) (λ h x. refl) (λ h x. refl) (λ h x. refl) (λ h x. refl) (λ h x. refl) (λ h x. refl) (λ h x. refl) (λ h x. refl) (λ h x. refl) (λ h x. absurd (true≢false h)) (λ h x. refl) k h x
 
     by : (n : ℕ) (t : Totals) → More t (addAll t (take n ((k, x) ∷ rs))) (take (trailersIn (take n ((k, x) ∷ rs))) bs)
     by zero t = omega arith
     by (suc n) t = subst (λ u. More t (addAll u (take n rs)) (take (trailersIn ((k, x) ∷ take n rs)) bs)) (sym (same t)) (rw h (s .first n t))
 
 text-other : (bs : List Batch) (k : Kind) → T (isText k) → (x : Fields k) (rs : List Rec) → Summed bs rs → Summed bs ((k, x) ∷ rs)
-text-other bs k t = other bs k (every (λ k. T (isText k) → isTrailer k ≡ false) (λ t. refl) (λ t. refl) (λ t. refl) (λ t. refl) (λ t. refl) (λ t. refl) (λ t. refl) (λ t. refl) (λ t. refl) (λ t. refl) (λ t. refl) (λ t. refl) (λ t. absurd t) (λ t. refl) k t)
+text-other bs k t = other bs k (every (λ k. T (isText k) → isBatchTrailer k ≡ false) (λ t. refl) (λ t. refl) (λ t. refl) (λ t. refl) (λ t. refl) (λ t. refl) (λ t. refl) (λ t. refl) (λ t. refl) (λ t. refl) (λ t. refl) (λ t. refl) (λ t. absurd t) (λ t. refl) k t)
 
 abbrev trailerOf : Batch → Rec
 trailerOf b = batchTrailerRec (totalOf (b .items)) (tenDigits (accountsOf (b .items))) (length (b .items))
@@ -104,14 +106,10 @@ file-summed f = other (f .batches) FileHeader refl _ _ (batches-summed (f .group
 pub first-sums : (f : File) (n : ℕ) → Sums (addAll noTotals (take n (fileRecs f))) (closedBy n f)
 first-sums f n = let w = file-summed f .first n noTotals in record { items = omega (arith, w .0); amount = omega (arith, w .1) }
 
-all-taken : {A : Type 0} (xs : List A) → take (length xs) xs ≡ xs
-all-taken [] = refl
-all-taken (x ∷ xs) = ap (λ l. x ∷ l) (all-taken xs)
-
 -- ALL OF THEM
 pub whole-sums : (f : File) → Sums (addAll noTotals (fileRecs f)) (f .batches)
 whole-sums f =
     let rs = fileRecs f in
-    let all : take (length rs) rs ≡ rs = all-taken rs in
-    let bs : closedBy (length rs) f ≡ f .batches = ap (λ qs. take (trailersIn qs) (f .batches)) all ∙ ap (λ n. take n (f .batches)) (file-summed f .all) ∙ all-taken (f .batches) in
+    let all : take (length rs) rs ≡ rs = take-length rs in
+    let bs : closedBy (length rs) f ≡ f .batches = ap (λ qs. take (trailersIn qs) (f .batches)) all ∙ ap (λ n. take n (f .batches)) (file-summed f .all) ∙ take-length (f .batches) in
     subst (λ qs. Sums (addAll noTotals qs) (f .batches)) all (subst (Sums (addAll noTotals (take (length rs) rs))) bs (first-sums f (length rs)))

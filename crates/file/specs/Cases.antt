@@ -260,7 +260,7 @@ uncheckedCases =
     ∷ file (take 291 (example end1310) ++ (characters "0123456789" ++ drop 301 (example end1310))) (refusal ordinaryAccount 6 32)
     ∷ []
 
--- 02's [5], 'file-items=2 and file-amount=152550': the example; without its file trailer; without its batch trailer too, so that the batch is open; with a wrong total in the batch trailer, which is refused; and with a second batch header after it. Then a state at both limits, above each, and at both with a batch that is closed
+-- 02's [5], 'file-items=2 and file-amount=152550': the example; without its file trailer; without its batch trailer too, so that the batch is open; with a wrong total in the batch trailer, which is refused; with a second batch header after it, and with one that is refused for its number. Then a state at both limits and above each; and one below both, and at each, with a batch of one cent that is closed
 abbrev pub totalCases : List Case
 totalCases =
     fileTotals (example end1310) 2 152550
@@ -268,6 +268,7 @@ totalCases =
     ∷ fileTotals (take (7 * 52) (example end1310)) 0 0
     ∷ fileTotals (take (7 * 52 + 22) (example end1310) ++ (49 ∷ drop (7 * 52 + 23) (example end1310))) 0 0
     ∷ fileTotals (take (8 * 52) (example end1310) ++ lineBytes (header 2)) 2 152550
+    ∷ fileTotals (take (8 * 52) (example end1310) ++ lineBytes (header 3)) 2 152550
     ∷ handedIn 999900000 45373483806849099 endsEarly
     ∷ handedIn 999900001 0 beyondLimits
     ∷ handedIn 0 45373483806849100 beyondLimits

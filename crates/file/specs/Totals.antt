@@ -2,17 +2,17 @@
 use mathlib.Core.Path.{_≡_}
 use mathlib.Core.Logic.{_≢_}
 use mathlib.Core.List.{List, [], _∷_, _++_}
-use mathlib.Core.Bool.{Bool, true, false}
 use Prim.Native.Nat.{ℕ, suc, _+_, _-_}
 use lib.ListN.{length, take}
 use Rattle.machine.specs.Lists.{pick}
 use Rattle.format.specs.Language.{Rec, Batch, File, totalOf, fileRecs, Reads}
 use Rattle.format.specs.Answers.{accepted}
 use Rattle.format.specs.Cutting.{firstLines}
+use Rattle.format.specs.Statements.{Completable}
 use Rattle.format.specs.declared.Answer.{Answer}
-use Rattle.format.specs.declared.Kind.{Kind}
-use Rattle.format.specs.declared.Kind.the-variants.{FileHeader, BatchHeaderB, BatchHeaderC, FixedDescription, OrderingParty, Transaction, NamePayer, CityPayer, PaymentReference, Description, NameBeneficiary, CityBeneficiary, BatchTrailer, FileTrailer}
+use Rattle.record.specs.Kinds.{isBatchTrailer}
 use Rattle.record.specs.declared.Totals.{Totals}
+use Rattle.reading.specs.declared.State.{State}
 
 -- ## Of batches
 
@@ -33,25 +33,9 @@ pub record Sums (t : Totals) (bs : List Batch) : Type 0 where
 
 -- ## Of lines
 
-abbrev pub isTrailer : Kind → Bool
-isTrailer FileHeader = false
-isTrailer BatchHeaderB = false
-isTrailer BatchHeaderC = false
-isTrailer FixedDescription = false
-isTrailer OrderingParty = false
-isTrailer Transaction = false
-isTrailer NamePayer = false
-isTrailer CityPayer = false
-isTrailer PaymentReference = false
-isTrailer Description = false
-isTrailer NameBeneficiary = false
-isTrailer CityBeneficiary = false
-isTrailer BatchTrailer = true
-isTrailer FileTrailer = false
-
 abbrev pub trailersIn : List Rec → ℕ
 trailersIn [] = 0
-trailersIn (r ∷ rs) = pick (isTrailer (r .0)) (suc (trailersIn rs)) (trailersIn rs)
+trailersIn (r ∷ rs) = pick (isBatchTrailer (r .0)) (suc (trailersIn rs)) (trailersIn rs)
 
 -- the batches of a file that its first n lines close: as many as these have trailers
 abbrev pub closedBy : ℕ → File → List Batch
@@ -60,6 +44,13 @@ closedBy n f = take (trailersIn (take n (fileRecs f))) (f .batches)
 -- totals after n lines: of every file that these can be completed to, the sums over the batches that they close
 abbrev pub SumsAfter : ℕ → List ℕ → Totals → Type 0
 SumsAfter n lines t = (f : File) (rest : List ℕ) → Reads (lines ++ rest) f → Sums t (closedBy n f)
+
+-- THE TOTALS OF A STATE OF A RUN, by the lines that led to it
+pub record RunTotals (lines : List ℕ) (s : State) : Type 0 where
+  -- some file begins with these lines
+  pub completable : Completable lines
+  -- and of every one they are the sums over the batches closed so far
+  pub sums : SumsAfter (s .line) lines (s .totals)
 
 -- the totals that a whole file's answer comes with
 pub record Totalled (b : List ℕ) (a : Answer) (t : Totals) : Type 0 where

@@ -180,7 +180,7 @@ module _ (z : Ending) (c : List ℕ) (h : Line (endBytes z) c) (r : List ℕ) wh
   line-first : cutOf (c ++ r) ≡ cutBy z
   line-first = end-cut z (c ++ r) (subst (Line (endBytes z)) (sym first-is) h)
 
-  next-is : nextLine (c ++ r) ≡ c
+  pub next-is : nextLine (c ++ r) ≡ c
   next-is = ap (λ (k : Cut). take (k .bytes) (c ++ r)) line-first ∙ first-is
 
   pub after-is : afterNext (c ++ r) ≡ r

@@ -9,7 +9,7 @@ use lib.ListN.{take}
 use lib.Dec.{eqb}
 use Rattle.machine.specs.Lists.{pick}
 use Rattle.machine.proofs.Base.{and-second, never, true≢false}
-use Rattle.format.specs.Records.{Fields, amount}
+use Rattle.format.specs.Records.{Fields}
 use Rattle.format.specs.Rules.{maxFixed, maxDescriptions, mostDescriptions}
 use Rattle.format.specs.Cutting.{isOpen, cutOf}
 use Rattle.format.specs.declared.Kind.{Kind}
@@ -17,13 +17,12 @@ use Rattle.format.specs.declared.Kind.the-variants.{FileHeader, BatchHeaderB, B
 use Rattle.format.specs.declared.Code.{Code}
 use Rattle.format.specs.declared.Cut.{Cut}
 use Rattle.format.specs.declared.Code.the-variants.{Of, Unknown}
-use Rattle.record.specs.Kinds.{isTransaction, codeOf}
+use Rattle.record.specs.Kinds.{isTransaction, isBatchTrailer, codeOf}
 use Rattle.record.specs.Faults.{fieldsOf, maximaFault, faultOf, otherFault}
 use Rattle.record.specs.Read.{transactionFor, transactionOf, valuesOf}
 use Rattle.record.specs.declared.Before.{Before}
 use Rattle.record.specs.declared.Batch.{Batch}
 use Rattle.record.specs.declared.Fault.{Fault}
-use Rattle.record.specs.declared.Totals.{Totals}
 use Rattle.record.specs.declared.TransactionRead.{TransactionRead}
 use Rattle.record.proofs.Reading.{valued}
 use Rattle.format.proofs.Every.{every}
@@ -32,12 +31,12 @@ use Rattle.record.proofs.ItemFaults.{transaction-read, transaction-refused, tra
 use Rattle.reading.specs.State.{areWithin, within, Bounded, Limited}
 use Rattle.reading.specs.Bounds.{Small, Going, haltAt}
 use Rattle.reading.specs.Order.{isStage, mayFix, mayText, mayDescribe, allowed}
-use Rattle.reading.specs.Step.{nextFor, paid, refused, taken, judgedBy, judgedAs, judgedKind, judgedCode, judgedLine, withEnding, withCut, isDone, judgedFirst}
+use Rattle.reading.specs.Step.{withBatch, nextFor, paid, refused, taken, judgedBy, judgedAs, judgedKind, judgedCode, judgedLine, withEnding, withCut, isDone, judgedFirst}
 use Rattle.reading.specs.declared.Stage.the-variants.{Opened, Closed}
 use Rattle.reading.specs.declared.State.{State}
 use Rattle.reading.specs.declared.Judged.{Judged}
 use Rattle.reading.proofs.Limits.{bounded-facts, bounded-test, within-limited, going-on}
-use Rattle.reading.proofs.Verdicts.{First, beyond, halted, moved, first}
+use Rattle.reading.proofs.Verdicts.{next-totals, is-trailer, First, beyond, halted, moved, first}
 
 -- with the state as it was
 pub refused-with : {u : State} (s : State) (column number : ℕ) → u ≡ s → _≡_ {A = Judged} (record { number = number; column = column; bytes = 0; code = Unknown; next = u }) (refused s column number)
@@ -217,12 +216,14 @@ limited-next s BatchTrailer line a f k t =
     record { items = zero-le; total = zero-le; accounts = zero-le; sequence = k .sequence; fixed = zero-le; descriptions = zero-le; totals = t }
 limited-next s FileTrailer line a f k t = same-limited {s = s} refl refl refl refl k
 
--- only a batch that is closed moves the totals
-totals-next : (s : State) (k : Kind) (x : Fields k) → isStage (nextFor s k x .stage) Closed ≡ false → nextFor s k x .totals ≡ s .totals
-totals-next s = every (λ k. (x : Fields k) → isStage (nextFor s k x .stage) Closed ≡ false → nextFor s k x .totals ≡ s .totals) same same same same same same same same same same same same (λ x c. absurd (true≢false c)) same
+-- where no batch is closed the totals stay
+totals-stay : (s : State) (k : Kind) (x : Fields k) → isStage (nextFor s k x .stage) Closed ≡ false → nextFor s k x .totals ≡ s .totals
+unfolding pick
+totals-stay s k x h = next-totals s k x ∙ by (isBatchTrailer k) refl
   where
-    same : {A : Type 0} {B : Type 0} {t : Totals} → A → B → t ≡ t
-    same a b = refl
+    by : (q : Bool) → isBatchTrailer k ≡ q → pick q (withBatch (s .totals) (s .batch)) (s .totals) ≡ s .totals
+    by true e = absurd (true≢false (sym (subst (λ m. (y : Fields m) → isStage (nextFor s m y .stage) Closed ≡ true) (sym (is-trailer k e)) (λ y. refl) x) ∙ h))
+    by false e = refl
 
 -- the limits after a line, where its totals are within theirs
 pub limited-first : {s : State} {xs : List ℕ} {j : Judged} → Limited s → First s xs j → Bounded (j .next .totals) → Limited (j .next)
@@ -237,7 +238,7 @@ going-first {s} {xs} g (moved w m c a f) =
     let k = within-limited s refl w in
     record {
       limited = λ h. limited-first {xs = xs} k (moved w m c a f) (bounded-facts _ h);
-      totals = λ q. ap areWithin (totals-next s m (fieldsOf m (take 50 xs)) q) ∙ bounded-test (s .totals) (k .totals);
+      totals = λ q. ap areWithin (totals-stay s m (fieldsOf m (take 50 xs)) q) ∙ bounded-test (s .totals) (k .totals);
     }
 
 pub going-after : {j : Judged} (s : State) (xs : List ℕ) → j ≡ judgedFirst s xs → Going s → Going (j .next)

@@ -8,25 +8,35 @@ use borrow.Author.Tests.{eq-eqb, ne-eqb, eqb-true, eqb-false}
 use lib.ListN.{take}
 use lib.Dec.{eqb}
 use Rattle.machine.specs.Lists.{pick}
+use Rattle.machine.proofs.Base.{never}
 use Rattle.format.specs.Records.{Fields}
 use Rattle.format.specs.Cutting.{isOpen, cutOf}
 use Rattle.format.specs.declared.Kind.{Kind}
+use Rattle.format.specs.declared.Kind.the-variants.{BatchTrailer}
 use Rattle.format.specs.declared.Code.{Code}
 use Rattle.format.specs.declared.Cut.{Cut}
 use Rattle.format.specs.declared.Code.the-variants.{Of, Unknown}
 use Rattle.format.proofs.Every.{every}
-use Rattle.record.specs.Kinds.{codeOf}
+use Rattle.record.specs.Kinds.{isBatchTrailer, codeOf}
 use Rattle.record.specs.Faults.{fieldsOf, faultOf}
 use Rattle.record.specs.declared.Fault.{Fault}
 use Rattle.reading.specs.State.{within}
 use Rattle.reading.specs.Order.{allowed}
-use Rattle.reading.specs.Step.{nextFor, refused, taken, judgedAs, judgedKind, judgedCode, judgedLine, takenWith, withCut, isDone, judgedFirst}
+use Rattle.reading.specs.Step.{withBatch, nextFor, refused, taken, judgedAs, judgedKind, judgedCode, judgedLine, takenWith, withCut, isDone, judgedFirst}
 use Rattle.reading.specs.declared.State.{State}
 use Rattle.reading.specs.declared.Judged.{Judged}
 
 -- a record that is taken is one line
 pub next-line : (s : State) (k : Kind) (x : Fields k) → nextFor s k x .line ≡ s .line + 1
 next-line s = every (λ k. (x : Fields k) → nextFor s k x .line ≡ s .line + 1) (λ x. refl) (λ x. refl) (λ x. refl) (λ x. refl) (λ x. refl) (λ x. refl) (λ x. refl) (λ x. refl) (λ x. refl) (λ x. refl) (λ x. refl) (λ x. refl) (λ x. refl) (λ x. refl)
+
+-- only a batch trailer moves the totals
+pub next-totals : (s : State) (k : Kind) (x : Fields k) → nextFor s k x .totals ≡ pick (isBatchTrailer k) (withBatch (s .totals) (s .batch)) (s .totals)
+unfolding pick
+next-totals s = every (λ k. (x : Fields k) → nextFor s k x .totals ≡ pick (isBatchTrailer k) (withBatch (s .totals) (s .batch)) (s .totals)) (λ x. refl) (λ x. refl) (λ x. refl) (λ x. refl) (λ x. refl) (λ x. refl) (λ x. refl) (λ x. refl) (λ x. refl) (λ x. refl) (λ x. refl) (λ x. refl) (λ x. refl) (λ x. refl)
+
+pub is-trailer : (k : Kind) → isBatchTrailer k ≡ true → k ≡ BatchTrailer
+is-trailer = every (λ k. isBatchTrailer k ≡ true → k ≡ BatchTrailer) never never never never never never never never never never never never (λ h. refl) never
 
 pub data Verdict (s : State) (line : List ℕ) : Judged → Type 0 where
   stopped : (c n : ℕ) → (n ≡ 0 → ⊥) → Verdict s line (refused s c n)
@@ -71,6 +81,12 @@ pub data First (s : State) (xs : List ℕ) : Judged → Type 0 where
   beyond : within s ≡ false → First s xs (refused s 0 24)
   halted : within s ≡ true → (c n : ℕ) → (n ≡ 0 → ⊥) → First s xs (refused s c n)
   moved : within s ≡ true → (k : Kind) → codeOf (take 5 (take 50 xs)) ≡ Of k → allowed s k ≡ true → faultOf (s .before) (s .batch) k (take 50 xs) .number ≡ 0 → First s xs (takenAs s k xs)
+
+-- a refusal leaves the state, and hands out no code
+pub refused-next : {s : State} {xs : List ℕ} {j : Judged} → First s xs j → (j .number ≡ 0 → ⊥) → (j .next ≡ s) × (j .code ≡ Unknown)
+refused-next (beyond w) z = (refl, refl)
+refused-next (halted w c n y) z = (refl, refl)
+refused-next (moved w k c a f) z = absurd (z refl)
 
 of-verdict : {s : State} {xs : List ℕ} {j : Judged} → within s ≡ true → Verdict s (take 50 xs) j → First s xs (withCut (cutOf xs) j)
 unfolding withCut pick

@@ -30,9 +30,10 @@ pub record Going (s : State) : Type 0 where
   pub limited : areWithin (s .totals) ≡ true → Limited s
   pub totals : isStage (s .stage) Closed ≡ false → areWithin (s .totals) ≡ true
 
--- what stops it before a line is looked at: 24, 11
+-- 24 for totals above their limits
 unfoldable pub overBy : Totals → ℕ
 overBy t = pick (areWithin t) accepted beyondLimits
 
+-- what stops a run before a line is looked at: 24, 11
 unfoldable pub haltAt : State → ℕ
 haltAt s = pick (within s) (pick (isDone s) afterTrailer accepted) beyondLimits

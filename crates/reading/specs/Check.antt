@@ -35,14 +35,14 @@ restOf s xs = answerBy (judgedLines s xs)
 unfoldable pub checkOf : List ℕ → Answer
 checkOf file = restOf startState file
 
--- the totals after them, or before the line that is refused
+-- the totals after the bytes that remain, or before the line that is refused
 unfoldable pub totalsAfter : State → List ℕ → Totals
 totalsAfter s xs = judgedLines s xs .next .totals
 
 unfoldable pub totalsOf : List ℕ → Totals
 totalsOf file = totalsAfter startState file
 
--- both
+-- answer and totals
 abbrev pub readAfter : State → List ℕ → FileRead
 readAfter s xs = record { answer = restOf s xs; totals = totalsAfter s xs }
 

@@ -24,6 +24,11 @@ maxLine = 6999369995
 unfoldable pub areWithin : Totals → Bool
 areWithin t = leb (t .items) maxFileItems && leb (t .amount) maxFileAmount
 
+-- the same as facts
+pub record Bounded (t : Totals) : Type 0 where
+  pub items : t .items ≤ maxFileItems
+  pub amount : t .amount ≤ maxFileAmount
+
 -- the limits of a state but for its line number
 unfoldable pub isLimited : State → Bool
 isLimited s =
@@ -40,10 +45,6 @@ unfoldable pub within : State → Bool
 within s = leb (s .line) maxLine && isLimited s
 
 -- those but for its line number as facts
-pub record Bounded (t : Totals) : Type 0 where
-  pub items : t .items ≤ maxFileItems
-  pub amount : t .amount ≤ maxFileAmount
-
 pub record Limited (s : State) : Type 0 where
   pub items : s .batch .items ≤ maxItems
   pub total : s .batch .total ≤ maxTotal

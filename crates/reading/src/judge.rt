@@ -50,8 +50,8 @@ fn is_transaction(k: Kind) -> bool
 }
 
 impl State {
-    // The state as it is, made anew but for its batch. Where a refusal copies it whole, or makes it by `with_ending`,
-    // the compiler copies parts of it for every line (DECISIONS, 73).
+    // The state as it is, made anew but for its batch and totals. Where a refusal copies it whole, or makes it by
+    // `with_ending`, the compiler copies parts of it for every line (DECISIONS, 73).
     fn rebuilt(self) -> State
         ensures { λ r. ⌜ r ≡ self ⌝ }
     {
@@ -304,6 +304,7 @@ fn are_within(t: Totals) -> bool
     (t.items <= Totals::MAX_ITEMS) & (t.amount <= Totals::MAX_AMOUNT)
 }
 
+// 24 for totals above their limits.
 fn over(t: Totals) -> u8
     ensures { λ r. ⌜ r ≡ overBy t ⌝ }
 {

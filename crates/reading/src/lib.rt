@@ -99,7 +99,7 @@ impl State {
     {
         let before = Before::nothing();
         let batch = Batch::empty();
-        let totals = Totals::zero();
+        let totals = Totals::none();
         let item = no_item();
         State {
             line: 0,

@@ -38,6 +38,22 @@ isTransaction CityBeneficiary = false
 isTransaction BatchTrailer = false
 isTransaction FileTrailer = false
 
+abbrev pub isBatchTrailer : Kind → Bool
+isBatchTrailer FileHeader = false
+isBatchTrailer BatchHeaderB = false
+isBatchTrailer BatchHeaderC = false
+isBatchTrailer FixedDescription = false
+isBatchTrailer OrderingParty = false
+isBatchTrailer Transaction = false
+isBatchTrailer NamePayer = false
+isBatchTrailer CityPayer = false
+isBatchTrailer PaymentReference = false
+isBatchTrailer Description = false
+isBatchTrailer NameBeneficiary = false
+isBatchTrailer CityBeneficiary = false
+isBatchTrailer BatchTrailer = true
+isBatchTrailer FileTrailer = false
+
 unfoldable pub fileCode : List ℕ → Code
 fileCode c =
     pick (same c (code FileHeader)) (Of FileHeader)

@@ -95,7 +95,7 @@ impl Totals {
     pub const MAX_AMOUNT: u64 = 45373483806849099;
 
     // Where no batch is closed.
-    pub fn zero() -> Totals
+    pub fn none() -> Totals
         ensures { λ r. ⌜ r ≡ noTotals ⌝ }
     {
         Totals {

@@ -119,7 +119,7 @@ pub record Cases : Type 0 where
   pub same-end : Answers (withEnding CrLf (batchAt 5 stage.Closed Unwanted)) FileTrailer (letters 0) 52 (acceptance 6)
   pub beyond-limits : Answers (batchAt 7000000000 stage.Closed Unwanted) FileTrailer (letters 0) 52 (refusal 24 0 0)
   -- 02's [5], 'The writer's state gets the same two numbers': a trailer that is written adds to them; 24 above either limit, and not at both
-  pub trailer-totals : writtenOf (batchAt 4 stage.Item Unwanted) BatchTrailer (letters 0) 52 .next .totals ≡ record { items = 1; amount = 15000 }
+  pub trailer-totals : writtenOf (batchAfter (record { items = 2; amount = 152550 }) 4 stage.Item Unwanted) BatchTrailer (letters 0) 52 .next .totals ≡ record { items = 3; amount = 167550 }
   pub largest-totals : Answers (batchAfter (record { items = 999900000; amount = 45373483806849099 }) 5 stage.Closed Unwanted) FileTrailer (letters 0) 52 (acceptance 6)
   pub items-beyond : Answers (batchAfter (record { items = 999900001; amount = 0 }) 5 stage.Closed Unwanted) FileTrailer (letters 0) 52 (refusal 24 0 0)
   pub amount-beyond : Answers (batchAfter (record { items = 0; amount = 45373483806849100 }) 5 stage.Closed Unwanted) FileTrailer (letters 0) 52 (refusal 24 0 0)

@@ -10,7 +10,7 @@ start-spec =
     (tie.spec
     (λ c κs. search needs)  -- nothing-requires
     (λ c κs. search needs)  -- empty-requires
-    (λ c κs. search needs)  -- zero-requires
+    (λ c κs. search needs)  -- none-requires
     (λ c κs. search needs)  -- no-item-requires
     (λ c. search started depth 20 fits 10000)  -- returns
     )
