@@ -8,7 +8,7 @@ use borrow.Author.Tests.{eq-eqb}
 use lib.ListN.{length, take, length-append}
 use Rattle.machine.specs.Lists.{pick}
 use Rattle.format.specs.Answers.{refusal, acceptance}
-use Rattle.format.specs.Cutting.{nextLine, afterNext, linesFrom, linesIn, firstLines}
+use Rattle.format.specs.Cutting.{nextLine, afterNext, linesFrom, linesIn, firstLines, AreLines}
 use Rattle.format.specs.Statements.{InLanguage, Completable}
 use Rattle.format.specs.declared.Answer.{Answer}
 use Rattle.format.proofs.Cutting.{whole-line, next-is, after-is}
@@ -78,14 +78,21 @@ answer-led {lines} {s} r q e =
     let w = all-led r in
     totals-are lines .1 ∙ ap (λ b. pick b (endedAt (judged lines .next)) (refusalBy (judged lines))) (eq-eqb (judged lines .number) 0 (w .0)) ∙ ap endedAt (w .1) ∙ rw (reached-within r, e)
 
-reached-completable : {lines : List ℕ} {s : State} → Reached lines s → Completable lines
+-- so they are whole lines, and a file's first
+abbrev Begins : List ℕ → State → Type 0
+Begins lines s = AreLines (s .line) lines × Completable lines
+
+reached-begins : {lines : List ℕ} {s : State} → Reached lines s → Begins lines s
 unfolding pick
-reached-completable {lines} {s} r = by (isDone s) refl
+reached-begins {lines} {s} r = by (isDone s) refl
   where
-    by : (q : Bool) → isDone s ≡ q → Completable lines
+    by : (q : Bool) → isDone s ≡ q → Begins lines s
     by true e =
-        let f = means lines .accepted-exactly .0 (ap (λ (a : Answer). a .number) (answer-led r true e)) in
-        ([], subst InLanguage (sym (append-nil lines)) f)
+        let a = answer-led r true e in
+        let z = ap (λ (x : Answer). x .number) a in (
+          subst (λ n. AreLines n lines) (ap (λ (x : Answer). x .line) a) (means lines .accepted-lines z .0),
+          ([], subst InLanguage (sym (append-nil lines)) (means lines .accepted-exactly .0 z)),
+        )
     by false e =
         let a = answer-led r false e in
         let z : checkOf lines .number ≡ 10 = ap (λ (x : Answer). x .number) a in
@@ -93,8 +100,11 @@ reached-completable {lines} {s} r = by (isDone s) refl
         let g = all-gone lines in
         let w = all-led r in
         let m : g .count ≡ checkOf lines .line - 1 = omega (arith, g .line, ap (λ (u : State). u .line) (w .1)) in
-        subst Completable (ap (λ k. firstLines k lines) (sym m) ∙ g .whole (w .0)) (means lines .refusal (λ y. absurd (omega arith)) .completable)
+        let all : firstLines (checkOf lines .line - 1) lines ≡ lines = ap (λ k. firstLines k lines) (sym m) ∙ g .whole (w .0) in
+        let tells = means lines .refusal (λ y. absurd (omega arith)) in
+        let l : checkOf lines .line - 1 ≡ s .line = omega arith in
+        (subst (λ k. AreLines k lines) l (subst (AreLines (checkOf lines .line - 1)) all (tells .lines-before)), subst Completable all (tells .completable))
 
 -- OF EVERY STATE OF A RUN
 pub reached-totals : {lines : List ℕ} {s : State} → Reached lines s → RunTotals lines s
-reached-totals r = record { completable = reached-completable r; sums = reached-sums r }
+reached-totals r = let w = reached-begins r in record { lines-read = w .0; completable = w .1; sums = reached-sums r }

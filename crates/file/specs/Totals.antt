@@ -7,7 +7,7 @@ use lib.ListN.{length, take}
 use Rattle.machine.specs.Lists.{pick}
 use Rattle.format.specs.Language.{Rec, Batch, File, totalOf, fileRecs, Reads}
 use Rattle.format.specs.Answers.{accepted}
-use Rattle.format.specs.Cutting.{firstLines}
+use Rattle.format.specs.Cutting.{firstLines, AreLines}
 use Rattle.format.specs.Statements.{Completable}
 use Rattle.format.specs.declared.Answer.{Answer}
 use Rattle.record.specs.Kinds.{isBatchTrailer}
@@ -47,7 +47,9 @@ SumsAfter n lines t = (f : File) (rest : List ℕ) → Reads (lines ++ rest) f �
 
 -- THE TOTALS OF A STATE OF A RUN, by the lines that led to it
 pub record RunTotals (lines : List ℕ) (s : State) : Type 0 where
-  -- some file begins with these lines
+  -- they are as many as it has counted
+  pub lines-read : AreLines (s .line) lines
+  -- some file begins with them
   pub completable : Completable lines
   -- and of every one they are the sums over the batches closed so far
   pub sums : SumsAfter (s .line) lines (s .totals)
