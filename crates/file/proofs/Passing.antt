@@ -1,32 +1,20 @@
 -- A PROPERTY OF RECORDS THAT TEXTS DO NOT TOUCH holds before them as after them: of the records of an item after its transaction, and of a batch before its items. Assumes nothing.
 use mathlib.Core.List.{List, [], _∷_}
-use mathlib.Core.Bool.{Bool, true, false}
+use mathlib.Core.Bool.{Bool, not, _||_}
 use mathlib.Core.Option.{Option, none, some}
 use Prim.Native.Nat.{ℕ}
 use lib.Dec.{T}
 use Rattle.format.specs.Records.{Fields}
 use Rattle.format.specs.Language.{Name, Item, Batch, Rec, batchHeaderRec, fixedRecs, orderingPartyRec, referenceRecs, descriptionRecs, cityRecs, nameRecs, itemRecs}
 use Rattle.format.specs.declared.Kind.{Kind}
-use Rattle.format.specs.declared.Kind.the-variants.{FileHeader, BatchHeaderB, BatchHeaderC, FixedDescription, OrderingParty, Transaction, NamePayer, CityPayer, PaymentReference, Description, NameBeneficiary, CityBeneficiary, BatchTrailer, FileTrailer}
+use Rattle.format.specs.declared.Kind.the-variants.{BatchHeaderB, BatchHeaderC, FixedDescription, OrderingParty, NamePayer, CityPayer, PaymentReference, Description, NameBeneficiary, CityBeneficiary}
 use Rattle.format.specs.declared.Group.{Group}
 use Rattle.format.specs.declared.Group.the-variants.{Payments, Debits}
+use Rattle.record.specs.Kinds.{isTransaction, isBatchTrailer}
 
 -- neither a transaction nor the trailer that counts it
 abbrev pub isText : Kind → Bool
-isText FileHeader = true
-isText BatchHeaderB = true
-isText BatchHeaderC = true
-isText FixedDescription = true
-isText OrderingParty = true
-isText Transaction = false
-isText NamePayer = true
-isText CityPayer = true
-isText PaymentReference = true
-isText Description = true
-isText NameBeneficiary = true
-isText CityBeneficiary = true
-isText BatchTrailer = false
-isText FileTrailer = true
+isText k = not (isTransaction k || isBatchTrailer k)
 
 module _ (P : List Rec → Type 0) (pass : (k : Kind) → T (isText k) → (x : Fields k) (rs : List Rec) → P rs → P ((k, x) ∷ rs)) where
   fixed-passed : (ts : List (List ℕ)) (k : List Rec) → P k → P (fixedRecs ts k)
