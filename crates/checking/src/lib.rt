@@ -1,4 +1,6 @@
 // An input checked line by line, for the programs: files of any length in constant memory.
+#![tactic(auto)]
+
 ghost use Rattle.checking.specs.Answered.{Answered};
 ghost use Rattle.file.specs.Reached.{InRun};
 

@@ -1,6 +1,8 @@
 // Says of each file that its arguments name, or of standard input, whether it is accepted, and if not what to tell the
 // sender: the place, the field, what is wrong, and the line as it stands with a mark under the column. For the
 // operator on the telephone.
+#![tactic(auto)]
+
 use checking::Checked;
 use field::bytes::part;
 use format::{Answer, Code};

@@ -1,6 +1,8 @@
 // The library for other languages: functions on numbers and slices, each slice a pointer and a length there
 // (library/clieop.h). Each returns its answer, column and line in one number. What is lent is written with answer 0
 // only.
+#![tactic(auto)]
+
 ghost use Rattle.std.specs.Prelude.{◌≡◌, ◌≤◌, length};
 ghost use Rattle.reading.specs.Check.{check_of};
 ghost use Rattle.file.specs.Meaning.{Means};

@@ -1,4 +1,6 @@
 // Descriptions: up to four texts of 32 characters each; fixed, an item's own, and both merged.
+#![tactic(auto)]
+
 ghost use Rattle.std.specs.Prelude.{◌≡◌, ◌++◌, ◌+◌, ◌*◌, ◌≤◌, take, drop};
 ghost use Rattle.machine.specs.Lists.{spaces};
 ghost use Rattle.descriptions.specs.Texts.{places, least, no_texts, merged, with_text};

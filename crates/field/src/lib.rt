@@ -1,4 +1,6 @@
 // Fields of a line: what stands in them, and the number of what is wrong first (0: nothing).
+#![tactic(auto)]
+
 pub mod accounts;
 pub mod arrival;
 pub mod bytes;

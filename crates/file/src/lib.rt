@@ -1,4 +1,6 @@
 // What callers ask of a whole file; what its answer means, and 01's worked cases (specs/, proofs/).
+#![tactic(auto)]
+
 ghost use Rattle.std.specs.Prelude.{◌≡◌};
 ghost use Rattle.reading.specs.Check.{read_of};
 ghost use Rattle.file.specs.Meaning.{Means};

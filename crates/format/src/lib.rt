@@ -1,5 +1,7 @@
 // The names of document 01 that code and definitions share: the kinds of record, the groups, the transaction types, the
 // answers and limits.
+#![tactic(auto)]
+
 ghost use Rattle.std.specs.Prelude.{◌≡◌};
 ghost use Rattle.format.specs.Answers.{refusal, acceptance};
 ghost use Rattle.format.specs.Cutting.{is_open, broken_cut, cut_of};

@@ -1,4 +1,6 @@
 // The item reader: item k of batch b of a file, each from 1.
+#![tactic(auto)]
+
 ghost use Rattle.std.specs.Prelude.{◌≡◌};
 ghost use Rattle.items.specs.Search.{no_fields};
 

@@ -1,5 +1,7 @@
 // Prints item K of batch B of each file that its other arguments name, or of standard input: its fields and
 // descriptions where there is one, and the answer.
+#![tactic(auto)]
+
 use field::bytes::{is_digits, part};
 use field::numbers::Digits;
 use format::{Answer, TypeRead};

@@ -1,5 +1,7 @@
 // Prints the listing of each file that its arguments name, or of standard input: its header, each closed batch, what
 // these come to, and the answer.
+#![tactic(auto)]
+
 use field::bytes::part;
 use format::{Answer, Group, codes};
 use libc::STDOUT_FILENO;

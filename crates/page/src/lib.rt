@@ -1,5 +1,7 @@
 // What the programs print: texts and key=value lines, gathered on a lent page. Each function answers how far the page
 // is filled.
+#![tactic(auto)]
+
 ghost use Rattle.std.specs.Prelude.{◌≡◌, ◌++◌, ◌+◌, ◌-◌, ◌≤◌, length, drop, leb};
 ghost use Rattle.machine.specs.Lists.{pasted};
 ghost use Rattle.format.specs.Answers.{refusal};

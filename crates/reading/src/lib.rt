@@ -1,4 +1,6 @@
 // The reading state, the judging of a line, and the line reader.
+#![tactic(auto)]
+
 ghost use Rattle.std.specs.Prelude.{◌≡◌};
 ghost use Rattle.reading.specs.State.{no_item, start_state};
 

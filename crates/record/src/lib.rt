@@ -1,4 +1,6 @@
 // Records of a line, without the reading state: their kind, what is wrong in them from the left, and their fields.
+#![tactic(auto)]
+
 ghost use Rattle.std.specs.Prelude.{◌≡◌};
 ghost use Rattle.record.specs.Faults.{nothing_before, after_header, empty_batch, no_totals};
 

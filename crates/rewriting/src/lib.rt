@@ -2,6 +2,8 @@
 // lines'. The characters of the file's own lines are copied, not built anew, and each line gets the writer's end. That
 // they are what `writer::write` writes of the file's records, one after the other from a state of its own, is proved of
 // the bytes (`Promised`, by-writer); no call of the writer stands in this code.
+#![tactic(auto)]
+
 ghost use Rattle.std.specs.Prelude.{◌≡◌, ◌+◌, ◌≤◌, length};
 ghost use Rattle.machine.specs.Lists.{pasted};
 ghost use Rattle.format.specs.Cutting.{lines_in};

@@ -1,6 +1,8 @@
 // Writes each file that its arguments name, or standard input, again to standard output: record by record from its
 // reading, without city records, its lines ended by 13, 10. A file is checked first and then read again, so that
 // nothing of a refused one is written; its answer goes to standard error.
+#![tactic(auto)]
+
 use checking::Checked;
 use field::bytes::part;
 use format::Answer;

@@ -1,6 +1,8 @@
 // What the programs read and write: the files that their arguments name, standard input and standard output. What
 // cannot be opened, read or written is told on standard error, in one line. No contract can say which bytes C reads or
 // writes.
+#![tactic(auto)]
+
 ghost use Rattle.std.specs.Prelude.{◌≡◌, ◌+◌, ◌≤◌, length};
 ghost use Rattle.io.specs.Counts.{IsPrefixLen};
 

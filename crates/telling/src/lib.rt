@@ -1,4 +1,6 @@
 // What the operator tells the sender: the words of an answer, and the name of the field that its column names.
+#![tactic(auto)]
+
 ghost use Rattle.std.specs.Prelude.{◌≡◌, drop};
 ghost use Rattle.page.specs.Lines.{with_text};
 ghost use Rattle.telling.specs.Words.{words, words_by, words_of};

@@ -1,5 +1,7 @@
 // Writes a file record by record: a record becomes a line, the reader judges it, and a line that it accepts goes to
 // the lent room.
+#![tactic(auto)]
+
 ghost use Rattle.std.specs.Prelude.{◌≡◌, length};
 ghost use Rattle.reading.specs.Step.{step_at};
 ghost use Rattle.writer.specs.Promises.{ReadsBack, WritesAgain, RefusesUnfit};

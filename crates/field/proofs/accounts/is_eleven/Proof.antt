@@ -6,18 +6,18 @@ use Rattle.field.proofs.Elevens.{Adding, addings}
 use Rattle.field.proofs.accounts.is_eleven.Statement.{statement}
 use Rattle.field.proofs.accounts.is_eleven.Tie as tie
 
-abbrev invariant-loop : tie.invariant-loop
-invariant-loop s running₀ second₀ i₀ running second i = Adding s running second i
+abbrev invariant-loop-i : tie.invariant-loop-i
+invariant-loop-i s running₀ second₀ i₀ running second i = Adding s running second i
 
-abbrev decreases-loop : tie.decreases-loop
-decreases-loop s running₀ second₀ i₀ running second i = length s - i
+abbrev decreases-loop-i : tie.decreases-loop-i
+decreases-loop-i s running₀ second₀ i₀ running second i = length s - i
 
 pub is_eleven_spec : {M : Type 1} → statement M
 is_eleven_spec =
     tie.close
     (tie.spec
-    invariant-loop
-    decreases-loop
+    invariant-loop-i
+    decreases-loop-i
     (λ c. search addings depth 3 fits 10000)  -- loop-holds
     (λ c. search rules)  -- shared-slice-read-wide
     (λ c. search addings depth 3 fits 10000)  -- sub-wide

@@ -8,18 +8,18 @@ use Rattle.field.proofs.arrival.days_before.Statement.{statement}
 use Rattle.field.proofs.arrival.days_before.Tie as tie
 
 -- the months before i are counted
-abbrev invariant-loop : tie.invariant-loop
-invariant-loop month year sum₀ i₀ sum i = (1 ≤ i) × ((i ≤ month) × (sum ≡ days_of_months year (i - 1)))
+abbrev invariant-loop-i : tie.invariant-loop-i
+invariant-loop-i month year sum₀ i₀ sum i = (1 ≤ i) × ((i ≤ month) × (sum ≡ days_of_months year (i - 1)))
 
-abbrev decreases-loop : tie.decreases-loop
-decreases-loop month year sum₀ i₀ sum i = month - i
+abbrev decreases-loop-i : tie.decreases-loop-i
+decreases-loop-i month year sum₀ i₀ sum i = month - i
 
 pub days_before_spec : {M : Type 1} → statement M
 days_before_spec =
     tie.close
     (tie.spec
-    invariant-loop
-    decreases-loop
+    invariant-loop-i
+    decreases-loop-i
     (λ c. search months depth 4 fits 10000)  -- loop-holds
     (λ c κs. search rules)  -- days-in-requires
     (λ c. search months depth 4 fits 10000)  -- add-sum

@@ -5,18 +5,18 @@ use Rattle.field.proofs.Slices.{alikes, Alike}
 use Rattle.field.proofs.bytes.is_same.Statement.{statement}
 use Rattle.field.proofs.bytes.is_same.Tie as tie
 
-abbrev invariant-loop : tie.invariant-loop
-invariant-loop a b ok₀ i₀ ok i = Alike a b ok i
+abbrev invariant-loop-i : tie.invariant-loop-i
+invariant-loop-i a b ok₀ i₀ ok i = Alike a b ok i
 
-abbrev decreases-loop : tie.decreases-loop
-decreases-loop a b ok₀ i₀ ok i = length a - i
+abbrev decreases-loop-i : tie.decreases-loop-i
+decreases-loop-i a b ok₀ i₀ ok i = length a - i
 
 pub is_same_spec : {M : Type 1} → statement M
 is_same_spec =
     tie.close
     (tie.spec
-    invariant-loop
-    decreases-loop
+    invariant-loop-i
+    decreases-loop-i
     (λ c. search alikes depth 3 fits 10000)  -- returns
     (λ c. search alikes depth 3 fits 10000)  -- loop-holds
     (λ c. search alikes depth 3 fits 10000)  -- shared-slice-read-ok

@@ -3,18 +3,18 @@ use Rattle.field.proofs.Spelling.{digits, Digiting}
 use Rattle.field.proofs.numbers.spelt.Statement.{statement}
 use Rattle.field.proofs.numbers.spelt.Tie as tie
 
-abbrev invariant-loop : tie.invariant-loop
-invariant-loop n digits₀ rest₀ i₀ digits rest i = Digiting n digits rest i
+abbrev invariant-loop-i : tie.invariant-loop-i
+invariant-loop-i n digits₀ rest₀ i₀ digits rest i = Digiting n digits rest i
 
-abbrev decreases-loop : tie.decreases-loop
-decreases-loop n digits₀ rest₀ i₀ digits rest i = i
+abbrev decreases-loop-i : tie.decreases-loop-i
+decreases-loop-i n digits₀ rest₀ i₀ digits rest i = i
 
 pub spelt_spec : {M : Type 1} → statement M
 spelt_spec =
     tie.close
     (tie.spec
-    invariant-loop
-    decreases-loop
+    invariant-loop-i
+    decreases-loop-i
     (λ c. search digits)  -- loop-holds
     (λ c. search digits)  -- sub-i
     (λ c κs. search digits)  -- digit-requires
