@@ -8,7 +8,7 @@ ghost use Rattle.descriptions.specs.Texts.{places, least, no_texts, merged, with
 use field::bytes::{part, put};
 
 // Four places of 32 characters, of which the first so many are used.
-#[derive(Drop)]
+#[derive(Clone, Copy)]
 pub struct Descriptions {
     pub text: [u8; 128],
     pub count: u64,

@@ -37,7 +37,7 @@ fn is_text(b: u8) -> bool
     (32 <= b) & (b <= 126)
 }
 
-fn is_digit_lem(b: u8) -> bool
+fn is_digit(b: u8) -> bool
     ensures { result ≡ is_digit b }
 {
     (48 <= b) & (b <= 57)
@@ -62,7 +62,7 @@ pub fn is_digits(s: &[u8]) -> bool
     let mut ok = true;
     let mut i = 0;
     while i < s.len() {
-        ok = ok & is_digit_lem(s[i]);
+        ok = ok & is_digit(s[i]);
         i += 1;
     }
     ok

@@ -8,14 +8,14 @@ ghost use Rattle.field.specs.Leaf.{digits_of, wrong_as, right_of, numeric_answer
 use crate::bytes::{is_digits, part};
 
 // Digits and what they stand for, 0 where they are none.
-#[derive(Drop)]
+#[derive(Clone, Copy)]
 pub struct Digits {
     pub ok: bool,
     pub value: u64,
 }
 
 // What is wrong with a numeric field, and its value where nothing is.
-#[derive(Drop)]
+#[derive(Clone, Copy)]
 pub struct Numeric {
     pub number: u8,
     pub value: u64,

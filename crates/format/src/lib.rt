@@ -11,7 +11,7 @@ ghost use Rattle.format.specs.Rules.{most_descriptions};
 pub mod codes;
 
 // A record's code and variant (01, 'Record table').
-#[derive(Drop)]
+#[derive(Clone, Copy)]
 pub enum Kind {
     FileHeader,
     BatchHeaderB,
@@ -30,14 +30,14 @@ pub enum Kind {
 }
 
 // Group 00, payments, and group 10, debits.
-#[derive(Drop)]
+#[derive(Clone, Copy)]
 pub enum Group {
     Payments,
     Debits,
 }
 
 // 0000, 0003, 0005, 0008 of group 00; 1001, 1002 of group 10.
-#[derive(Drop)]
+#[derive(Clone, Copy)]
 pub enum TransactionType {
     UncheckedCreditor,
     UncheckedSalary,
@@ -48,21 +48,21 @@ pub enum TransactionType {
 }
 
 // What the four characters of a type stand for.
-#[derive(Drop)]
+#[derive(Clone, Copy)]
 pub enum TypeRead {
     Of(TransactionType),
     NoType,
 }
 
 // What the first five characters of a line stand for.
-#[derive(Drop)]
+#[derive(Clone, Copy)]
 pub enum Code {
     Of(Kind),
     Unknown,
 }
 
 // What is answered: a number of 01's table, the line and the column that it names, each 0 where it names none.
-#[derive(Drop)]
+#[derive(Clone, Copy)]
 pub struct Answer {
     pub number: u8,
     pub line: u64,
@@ -94,7 +94,7 @@ impl Answer {
 
 // How lines end: with 13 and 10, or with 10 alone. It is unknown before the first line, which fixes it, and of a line
 // that has neither end.
-#[derive(Drop)]
+#[derive(Clone, Copy)]
 pub enum EndingSoFar {
     Unknown,
     CrLf,
@@ -102,14 +102,14 @@ pub enum EndingSoFar {
 }
 
 // The first line of some bytes: how many it takes, and how it ends.
-#[derive(Drop)]
+#[derive(Clone, Copy)]
 pub struct Cut {
     pub bytes: usize,
     pub ending: EndingSoFar,
 }
 
 // The date on which a file arrives, as ddmmyy: none where it is read without one.
-#[derive(Drop)]
+#[derive(Clone, Copy)]
 pub enum Arrival {
     NotGiven,
     On(u64),
@@ -186,7 +186,7 @@ fn is_open_to_10(e: EndingSoFar) -> bool
 
 impl EndingSoFar {
     // Whether a line that ends so may follow.
-    pub fn is_open_lem(self, line: EndingSoFar) -> bool
+    pub fn is_open(self, line: EndingSoFar) -> bool
         ensures { result ≡ is_open self line }
     {
         match line {

@@ -15,7 +15,7 @@ mod text;
 pub use answer::item;
 
 // An item's own fields, of its name the first 24 characters; no type, zeros and spaces where there is none.
-#[derive(Drop)]
+#[derive(Clone, Copy)]
 pub struct ItemFields {
     pub kind: TypeRead,
     pub amount: u64,
@@ -26,7 +26,7 @@ pub struct ItemFields {
 }
 
 // The fixed descriptions of the wanted batch, and the wanted item's own descriptions and fields.
-#[derive(Drop)]
+#[derive(Clone, Copy)]
 pub struct Found {
     pub fixed: Descriptions,
     pub own: Descriptions,
@@ -36,7 +36,7 @@ pub struct Found {
 
 // A search so far: the batch headers and then the transactions still to come, up to the wanted one; whether the wanted
 // batch and item are open; and what was found.
-#[derive(Drop)]
+#[derive(Clone, Copy)]
 pub struct Search {
     pub batches: u64,
     pub items: u64,
@@ -46,7 +46,7 @@ pub struct Search {
 }
 
 // What is answered to one who asks for an item.
-#[derive(Drop)]
+#[derive(Clone, Copy)]
 pub struct ItemRead {
     pub answer: Answer,
     pub fields: ItemFields,

@@ -172,7 +172,7 @@ impl State {
         let before = self.before;
         let so_far = before.ending;
         let ending = cut.ending;
-        so_far.is_open_lem(ending)
+        so_far.is_open(ending)
     }
 
     // What stops a run before its next line: 24, 11, or nothing. Totals are looked at after a batch alone: nothing else

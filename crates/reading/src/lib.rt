@@ -15,7 +15,7 @@ mod step;
 
 // How far a file is read: before its header, after it, in a batch before and after its ordering party, in an item,
 // after a batch, after the file trailer.
-#[derive(Drop)]
+#[derive(Clone, Copy)]
 pub enum Stage {
     Start,
     Headed,
@@ -27,7 +27,7 @@ pub enum Stage {
 }
 
 // The name record of the open item: none wanted, one due, just read (a city may follow), or past.
-#[derive(Drop)]
+#[derive(Clone, Copy)]
 pub enum Name {
     Unwanted,
     Due,
@@ -36,7 +36,7 @@ pub enum Name {
 }
 
 // The open item: its name record, whether it has a reference, and its descriptions so far.
-#[derive(Drop)]
+#[derive(Clone, Copy)]
 pub struct OpenItem {
     pub name: Name,
     pub reference: bool,
@@ -45,7 +45,7 @@ pub struct OpenItem {
 
 // A file so far: the lines read, what crosses batches, the batch, what the closed batches come to, the stage, and the
 // open item. (Numbers first, then what takes a byte: gaps between fields are copied with them, line by line.)
-#[derive(Drop)]
+#[derive(Clone, Copy)]
 pub struct State {
     pub line: u64,
     pub before: Before,
@@ -57,7 +57,7 @@ pub struct State {
 
 // What the judging of a line comes to: the answer's number and column, how many bytes the line took and its code where
 // it is accepted, and the state after it.
-#[derive(Drop)]
+#[derive(Clone, Copy)]
 pub struct Judged {
     pub number: u8,
     pub column: u8,
@@ -68,7 +68,7 @@ pub struct Judged {
 
 // What a line is answered, the state after it, how many bytes it took (0 where nothing was read), and the record read
 // with its text.
-#[derive(Drop)]
+#[derive(Clone, Copy)]
 pub struct LineRead {
     pub answer: Answer,
     pub next: State,
@@ -79,7 +79,7 @@ pub struct LineRead {
 
 // What a whole file is answered, and what its closed batches come to: all of them, or those before the line that is
 // refused.
-#[derive(Drop)]
+#[derive(Clone, Copy)]
 pub struct FileRead {
     pub answer: Answer,
     pub totals: Totals,

@@ -8,7 +8,7 @@ use crate::{LineRead, State};
 use field::bytes::{next_line, part};
 use format::{Answer, Code};
 use record::Record;
-use record::read::{record_in, text_in_lem};
+use record::read::{record_in, text_in};
 
 // The line that a refusal names: 24 names none.
 pub(crate) fn refusal_line(number: u8, line: u64) -> u64
@@ -66,7 +66,7 @@ impl State {
                 next,
                 bytes: j.bytes,
                 read: record_in(k, line),
-                text: text_in_lem(k, line),
+                text: text_in(k, line),
             },
             Code::Unknown => {
                 let named = refusal_line(j.number, next.line);

@@ -84,7 +84,7 @@ fn opened_item(t: TransactionFields) -> OpenItem
     }
 }
 
-fn after_text_lem(n: Name) -> Name
+fn after_text(n: Name) -> Name
     ensures { result ≡ after_text n }
 {
     match n {
@@ -200,7 +200,7 @@ impl State {
     {
         let i = self.item;
         let n = i.name;
-        let name = after_text_lem(n);
+        let name = after_text(n);
         let item = OpenItem {
             name,
             reference,

@@ -12,7 +12,7 @@ pub mod read;
 pub mod types;
 
 // What is wrong in a line: the answer's number and its column, 0 and 0 where nothing is.
-#[derive(Drop)]
+#[derive(Clone, Copy)]
 pub struct Fault {
     pub number: u8,
     pub column: u8,
@@ -20,7 +20,7 @@ pub struct Fault {
 
 // What crosses batches: the number of the last batch header, 0 for none, the group and whether it is known yet, and the
 // end that the first line fixed for all.
-#[derive(Drop)]
+#[derive(Clone, Copy)]
 pub struct Before {
     pub sequence: u64,
     pub group: Group,
@@ -55,7 +55,7 @@ impl Before {
 }
 
 // A batch so far: its header's account, what its items come to, and how many fixed descriptions it has.
-#[derive(Drop)]
+#[derive(Clone, Copy)]
 pub struct Batch {
     pub account: u64,
     pub items: u64,
@@ -87,7 +87,7 @@ impl Batch {
 }
 
 // What the closed batches of a file come to: how many items, and their amounts in cents.
-#[derive(Drop)]
+#[derive(Clone, Copy)]
 pub struct Totals {
     pub items: u64,
     pub amount: u64,
@@ -110,7 +110,7 @@ impl Totals {
 }
 
 // A batch as its trailer closes it.
-#[derive(Drop)]
+#[derive(Clone, Copy)]
 pub struct ClosedBatch {
     pub group: Group,
     pub account: u64,
@@ -120,7 +120,7 @@ pub struct ClosedBatch {
     pub accounts: u64,
 }
 
-#[derive(Drop)]
+#[derive(Clone, Copy)]
 pub struct Transaction {
     pub kind: TransactionType,
     pub amount: u64,
@@ -133,7 +133,7 @@ impl Transaction {
 }
 
 // The fields of a transaction's line, whatever characters stand for its type.
-#[derive(Drop)]
+#[derive(Clone, Copy)]
 pub struct TransactionFields {
     pub kind: TypeRead,
     pub amount: u64,
@@ -142,7 +142,7 @@ pub struct TransactionFields {
 }
 
 // The fields of a transaction, or what is wrong in them first, with no type and zeros.
-#[derive(Drop)]
+#[derive(Clone, Copy)]
 pub struct TransactionRead {
     pub number: u8,
     pub column: u8,
@@ -150,7 +150,7 @@ pub struct TransactionRead {
 }
 
 // A record of each kind with its numbers; its text stands beside it.
-#[derive(Drop)]
+#[derive(Clone, Copy)]
 pub enum Record {
     Nothing,
     FileHeader {

@@ -119,7 +119,7 @@ pub fn record_in(kind: Kind, line: &[u8]) -> Record
 }
 
 // A part of a line: after how many characters, and its width.
-#[derive(Drop)]
+#[derive(Clone, Copy)]
 pub struct Part {
     pub at: usize,
     pub width: usize,
@@ -148,7 +148,7 @@ pub fn text_part(kind: Kind) -> Part
 }
 
 // A record's text at the front of 35 characters, the others spaces.
-pub fn text_in_lem(kind: Kind, line: &[u8]) -> [u8; 35]
+pub fn text_in(kind: Kind, line: &[u8]) -> [u8; 35]
     ensures { result ≡ text_for kind (values_of kind line.now) }
 {
     let p = text_part(kind);

@@ -16,7 +16,7 @@ use format::{Answer, codes};
 use record::kinds::is_city;
 
 // What a file to write again is answered, and how many bytes were written.
-#[derive(Drop)]
+#[derive(Clone, Copy)]
 pub struct Rewritten {
     pub answer: Answer,
     pub written: usize,

@@ -20,7 +20,7 @@ mod lines;
 pub const LINE: usize = 52;
 
 // A record to write: of every kind but city, a trailer without its numbers; its text stands beside it.
-#[derive(Drop)]
+#[derive(Clone, Copy)]
 pub enum Entry {
     FileHeader {
         created: u64,
@@ -49,7 +49,7 @@ pub enum Entry {
 }
 
 // What a record to write is answered, and the state after it.
-#[derive(Drop)]
+#[derive(Clone, Copy)]
 pub struct Written {
     pub answer: Answer,
     pub next: State,

@@ -2,8 +2,8 @@
 use borrow.Author.Rules.{rules}
 use Rattle.reading.specs.Step.{after_text}
 use Rattle.record.proofs.Typing.{of_case}
-use Rattle.reading.proofs.step.after_text_lem.Statement.{statement}
-use Rattle.reading.proofs.step.after_text_lem.Tie as tie
+use Rattle.reading.proofs.step.after_text.Statement.{statement}
+use Rattle.reading.proofs.step.after_text.Tie as tie
 
 pub after_text_spec : {M : Type 1} → statement M
 after_text_spec =

@@ -1,8 +1,8 @@
 -- What read::text_in_lem ensures, by the laws of Reading.
 use borrow.Author.Rules.{rules}
 use Rattle.record.proofs.Reading.{text_put}
-use Rattle.record.proofs.read.text_in_lem.Statement.{statement}
-use Rattle.record.proofs.read.text_in_lem.Tie as tie
+use Rattle.record.proofs.read.text_in.Statement.{statement}
+use Rattle.record.proofs.read.text_in.Tie as tie
 
 pub text_in_spec : {M : Type 1} → statement M
 text_in_spec =
