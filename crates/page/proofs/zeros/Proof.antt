@@ -4,18 +4,18 @@ use Rattle.page.proofs.Spelling.{passes, Passing}
 use Rattle.page.proofs.zeros.Statement.{statement}
 use Rattle.page.proofs.zeros.Tie as tie
 
-abbrev invariant-loop : tie.invariant-loop
-invariant-loop digits most z₀ z = Passing most digits z
+abbrev invariant-loop-z : tie.invariant-loop-z
+invariant-loop-z digits most z₀ z = Passing most digits z
 
-abbrev decreases-loop : tie.decreases-loop
-decreases-loop digits most z₀ z = most - z
+abbrev decreases-loop-z : tie.decreases-loop-z
+decreases-loop-z digits most z₀ z = most - z
 
 pub zeros_spec : {M : Type 1} → statement M
 zeros_spec =
     tie.close
     (tie.spec
-    invariant-loop
-    decreases-loop
+    invariant-loop-z
+    decreases-loop-z
     (λ c. search passes)  -- loop-holds
     (λ c. search passes)  -- shared-slice-read-if1
     (λ c. search passes)  -- returns
