@@ -1,0 +1,16 @@
+-- What fields::put_in_transaction ensures, by the laws of Telling.
+use borrow.Author.Rules.{rules}
+use Rattle.telling.proofs.Telling.{tells}
+use Rattle.telling.proofs.fields.put_in_transaction.Goals as goal
+
+pub returns-then-column-eq6 : goal.returns-then-column-eq6
+returns-then-column-eq6 c = search tells depth 20 fits 10000
+
+pub returns-then-column-eq10 : goal.returns-then-column-eq10
+returns-then-column-eq10 c = search tells depth 20 fits 10000
+
+pub returns-then-column-eq22 : goal.returns-then-column-eq22
+returns-then-column-eq22 c = search tells depth 20 fits 10000
+
+pub returns : goal.returns
+returns c = search tells depth 20 fits 10000
