@@ -1,0 +1,13 @@
+-- What fields::put_field ensures, by the laws of Telling.
+use borrow.Author.Rules.{rules}
+use Rattle.telling.proofs.Telling.{tells}
+use Rattle.telling.specs.Names.{field_name}
+use Rattle.telling.proofs.fields.put_field.Goals as goal
+
+pub returns-then-column-eq1 : goal.returns-then-column-eq1
+unfolding field_name
+returns-then-column-eq1 c = search tells depth 20 fits 10000
+
+pub returns : goal.returns
+unfolding field_name
+returns c = search tells depth 20 fits 10000
