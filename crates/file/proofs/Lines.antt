@@ -151,6 +151,20 @@ module _ (n : ℕ) (t : Totals) (a : Before) (b : Batch) (r : Bool) (d : ℕ) wh
   edge Closed g m f q e h next_batch_b x = (refl, refl, refl)
   edge Closed g m f q e h next_batch_c x = (refl, refl, refl)
   edge Closed g m f q e h file_trailer x = (refl, refl, refl)
+  edge Start g m f q e h (next_item x9) x = elim x9 [ ]
+  edge Start g m f q e h (batch_trailer x10) x = elim x10 [ ]
+  edge Headed g m f q e h (next_item x10) x = elim x10 [ ]
+  edge Headed g m f q e h (batch_trailer x11) x = elim x11 [ ]
+  edge Opened g m f q e h (next_item x11) x = elim x11 [ ]
+  edge Opened g m f q e h (batch_trailer x12) x = elim x12 [ ]
+  edge Ordered g m f q e h (next_item x12) x = elim x12 [ ]
+  edge Ordered g m f q e h (batch_trailer x13) x = elim x13 [ ]
+  edge Item Payments Due f q e h (next_item {g = g} x15) x = elim x15 [ ]
+  edge Item Payments Due f q e h (batch_trailer {g = g} x16) x = elim x16 [ ]
+  edge Item Debits Due f q e h (next_item {g = g} x16) x = elim x16 [ ]
+  edge Item Debits Due f q e h (batch_trailer {g = g} x17) x = elim x17 [ ]
+  edge Closed g m f q e h (next_item x14) x = elim x14 [ ]
+  edge Closed g m f q e h (batch_trailer x15) x = elim x15 [ ]
   edge Done g m f q e h pl x = absurd (not_ended pl)
 
 edge_of : (s : State) {k : Kind} (pl : Place (phase_of s) k) (x : Fields k) → Edge s pl x
