@@ -7,18 +7,18 @@ use Rattle.rewriting.proofs.Copying.{copies, copy_room, Copying}
 use Rattle.rewriting.proofs.copy.Statement.{statement}
 use Rattle.rewriting.proofs.copy.Tie as tie
 
-abbrev invariant-loop : tie.invariant-loop
-invariant-loop file out₀ at₀ i₀ out at i = Copying file out₀ out at i
+abbrev invariant-loop-i : tie.invariant-loop-i
+invariant-loop-i file out₀ at₀ i₀ out at i = Copying file out₀ out at i
 
-abbrev decreases-loop : tie.decreases-loop
-decreases-loop file out₀ at₀ i₀ out at i = length file - i
+abbrev decreases-loop-i : tie.decreases-loop-i
+decreases-loop-i file out₀ at₀ i₀ out at i = length file - i
 
 pub copy_spec : {M : Type 1} → statement M
 copy_spec =
     tie.close
     (tie.spec
-    invariant-loop
-    decreases-loop
+    invariant-loop-i
+    decreases-loop-i
     (λ c. search copies depth 20 fits 10000)  -- loop-holds
     (λ c κs. search rules)  -- next-line-requires
     (λ c κs. search copy_room depth 20 fits 10000)  -- put-line-requires
