@@ -6,9 +6,7 @@ use std::path::PathBuf;
 fn main() {
     println!("cargo:rerun-if-env-changed=CLIEOP_LIB");
     let folder = env::var_os("CLIEOP_LIB").map(PathBuf::from).unwrap_or_else(|| {
-        let target = PathBuf::from(env!("CARGO_MANIFEST_DIR")).join("../../target");
-        let native = env::var("CARGO_CFG_TARGET_ARCH").as_deref() == Ok("x86_64");
-        target.join(if native { "staticlib" } else { "native" })
+        PathBuf::from(env!("CARGO_MANIFEST_DIR")).join("../../crates/clieop_c/out")
     });
     println!("cargo:rerun-if-changed={}", folder.join("libclieop_c.a").display());
     println!("cargo:rustc-link-search=native={}", folder.display());
