@@ -12,7 +12,7 @@ use Rattle.machine.specs.Lists.{pick}
 use Rattle.machine.specs.Digits.{value_of}
 use Rattle.format.specs.Fields.{Field, numeric, filled, filler, width, well_formed}
 use Rattle.format.specs.Answers.{above_maximum}
-use Rattle.format.specs.Records.{layout, group, type, amount}
+use Rattle.format.specs.Records.{layout, type, amount}
 use Rattle.format.specs.Rules.{max_amount, max_total, max_items, max_account, same_group, type_of, is_type, is_unchecked_type}
 use Rattle.format.specs.Tests.{Tests, type_tests, amount_tests, party_tests, payer_tests, beneficiary_tests, transaction_tests}
 use Rattle.format.specs.declared.Kind.TheVariants.{Transaction}

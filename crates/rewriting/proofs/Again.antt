@@ -18,7 +18,6 @@ use Rattle.format.specs.Records.{Fields, type, amount, payer, beneficiary}
 use Rattle.format.specs.Rules.{type_of, is_type}
 use Rattle.format.specs.declared.Kind.{Kind}
 use Rattle.format.specs.declared.Kind.TheVariants.{Transaction}
-use Rattle.format.specs.declared.Code.TheVariants.{Of}
 use Rattle.format.specs.declared.TypeRead.{TypeRead}
 use Rattle.format.specs.declared.TypeRead.TheVariants as types
 use Rattle.format.proofs.Every.{every}

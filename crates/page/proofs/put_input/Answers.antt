@@ -1,5 +1,4 @@
 -- What put_input ensures, by the laws of field's Picks.
-use borrow.Author.Rules.{rules}
 use Rattle.field.proofs.Picks.{pick_yes, pick_no}
 use Rattle.page.proofs.put_input.Goals as goal
 

@@ -1,6 +1,5 @@
 -- What put_line ensures, by the laws of Pasting.
-use borrow.Author.Rules.{rules}
-use Rattle.page.proofs.Pasting.{line_left, both_fit, end_fits, line_put}
+use Rattle.page.proofs.Pasting.{line_left, line_put}
 use Rattle.page.proofs.put_line.Goals as goal
 
 pub returns-then-has_room : goal.returns-then-has_room

@@ -1,5 +1,4 @@
 -- What put_parts ensures, by the laws of Spelling.
-use borrow.Author.Rules.{rules}
 use Rattle.page.proofs.Spelling.{answers}
 use Rattle.page.proofs.put_parts.Goals as goal
 

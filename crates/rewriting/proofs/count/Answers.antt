@@ -1,9 +1,7 @@
 -- What count ensures and its loop keeps, by the laws of format's Cutting and Copying.
 use borrow.Author.Rules.{rules}
-use Prim.Native.Nat.{◌-◌}
-use lib.ListN.{length}
 use Rattle.format.proofs.Cutting.{line_less}
-use Rattle.rewriting.proofs.Copying.{counts, count_fits, Counting}
+use Rattle.rewriting.proofs.Copying.{counts, count_fits}
 use Rattle.rewriting.proofs.count.Goals as goal
 
 pub overflow_add-n : goal.overflow_add-n

@@ -1,5 +1,4 @@
 -- What put_words ensures, by the laws of Telling.
-use borrow.Author.Rules.{rules}
 use Rattle.telling.proofs.Telling.{tells}
 use Rattle.telling.specs.Words.{words_of}
 use Rattle.telling.proofs.put_words.Goals as goal

@@ -1,5 +1,4 @@
 -- What put_words_from_6 ensures, by the laws of Telling.
-use borrow.Author.Rules.{rules}
 use Rattle.telling.proofs.Telling.{tells}
 use Rattle.telling.proofs.put_words_from_6.Goals as goal
 

@@ -1,9 +1,7 @@
 -- What judge::run ensures and its loop keeps, by the laws of format's Cutting, Running and Judgements.
-use borrow.Author.Rules.{rules}
 use Prim.Native.Nat.{◌-◌}
 use lib.ListN.{length}
-use Rattle.reading.proofs.Running.{Running, runs, run_inside, run_less, run_more}
-use Rattle.reading.proofs.Judgements.{going_after}
+use Rattle.reading.proofs.Running.{Running}
 use Rattle.reading.specs.Bounds.{Going}
 use Rattle.reading.proofs.judge.run.Given as goal
 

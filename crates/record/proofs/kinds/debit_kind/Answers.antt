@@ -1,5 +1,4 @@
 -- What kinds::debit_kind ensures, by the laws of field's Picks.
-use borrow.Author.Rules.{rules}
 use Rattle.record.specs.Kinds.{debit_code}
 use Rattle.field.proofs.Picks.{pick_yes, pick_no, by_call}
 use Rattle.record.proofs.kinds.debit_kind.Goals as goal

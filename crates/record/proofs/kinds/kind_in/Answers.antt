@@ -1,5 +1,4 @@
 -- What kinds::kind_in ensures, by the laws of field's Picks.
-use borrow.Author.Rules.{rules}
 use Rattle.record.specs.Kinds.{code_of}
 use Rattle.field.proofs.Picks.{pick_yes, pick_no, by_call}
 use Rattle.record.proofs.kinds.kind_in.Goals as goal

@@ -1,5 +1,4 @@
 -- What types::group_in ensures, by the laws of field's Forms and field's Picks.
-use borrow.Author.Rules.{rules}
 use Rattle.field.proofs.Forms.{same_part}
 use Rattle.field.proofs.Picks.{pick_yes, pick_no}
 use Rattle.record.proofs.types.group_in.Goals as goal

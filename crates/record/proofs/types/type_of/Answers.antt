@@ -1,5 +1,4 @@
 -- What types::type_of ensures, by the laws of field's Picks.
-use borrow.Author.Rules.{rules}
 use Rattle.format.specs.Rules.{type_of}
 use Rattle.field.proofs.Picks.{pick_yes, pick_no, by_call}
 use Rattle.record.proofs.types.type_of.Goals as goal

@@ -1,5 +1,4 @@
 -- What fields::put_field ensures, by the laws of Telling.
-use borrow.Author.Rules.{rules}
 use Rattle.telling.proofs.Telling.{tells}
 use Rattle.telling.specs.Names.{field_name}
 use Rattle.telling.proofs.fields.put_field.Goals as goal

@@ -1,5 +1,4 @@
 -- What fields::put_in_batch_header ensures, by the laws of Telling.
-use borrow.Author.Rules.{rules}
 use Rattle.telling.proofs.Telling.{tells}
 use Rattle.telling.proofs.fields.put_in_batch_header.Goals as goal
 

@@ -1,5 +1,4 @@
 -- What fields::put_in_batch_trailer ensures, by the laws of Telling.
-use borrow.Author.Rules.{rules}
 use Rattle.telling.proofs.Telling.{tells}
 use Rattle.telling.proofs.fields.put_in_batch_trailer.Goals as goal
 

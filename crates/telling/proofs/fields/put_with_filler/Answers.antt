@@ -1,5 +1,4 @@
 -- What fields::put_with_filler ensures, by the laws of Telling.
-use borrow.Author.Rules.{rules}
 use Rattle.telling.proofs.Telling.{tells}
 use Rattle.telling.proofs.fields.put_with_filler.Goals as goal
 

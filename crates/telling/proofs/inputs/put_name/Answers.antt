@@ -1,5 +1,4 @@
 -- What inputs::put_name ensures, by the laws of Telling.
-use borrow.Author.Rules.{rules}
 use Rattle.telling.proofs.Telling.{tells}
 use Rattle.telling.specs.Names.{input_name}
 use Rattle.telling.proofs.inputs.put_name.Goals as goal

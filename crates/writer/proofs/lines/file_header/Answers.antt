@@ -1,5 +1,4 @@
 -- What lines::file_header ensures, by the laws of Building.
-use borrow.Author.Rules.{rules}
 use Rattle.writer.proofs.Building.{builds}
 use Rattle.writer.proofs.lines.file_header.Goals as goal
 

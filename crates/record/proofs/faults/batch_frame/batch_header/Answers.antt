@@ -1,5 +1,4 @@
 -- What faults::batch_frame::batch_header ensures, by the laws of field's Rows, Faulting and BatchFaults.
-use borrow.Author.Rules.{rules}
 use Rattle.record.specs.Faults.{first_fault}
 use Rattle.field.proofs.Rows.{rows}
 use Rattle.record.proofs.Faulting.{ends}

@@ -1,5 +1,4 @@
 -- What faults::batch_frame::test_code_answer ensures, by the laws of field's Picks and field's Forms.
-use borrow.Author.Rules.{rules}
 use Rattle.format.specs.Rules.{is_test_code}
 use Rattle.field.proofs.Picks.{pick_yes, pick_no, first_holds, else_is}
 use Rattle.field.proofs.Forms.{form_stop, form_on, same_part}

@@ -1,5 +1,4 @@
 -- What faults::file_frame::file_header ensures, by the laws of field's Rows, Faulting and FileFaults.
-use borrow.Author.Rules.{rules}
 use Rattle.record.specs.Faults.{fields_fault, first_fault}
 use Rattle.field.proofs.Rows.{rows}
 use Rattle.record.proofs.Faulting.{ends}

@@ -1,5 +1,4 @@
 -- What faults::file_frame::identification_answer ensures, by the laws of field's Picks, field's Forms and FileFaults.
-use borrow.Author.Rules.{rules}
 use borrow.Author.Tests.{eq-eqb, ne_eqb}
 use Rattle.field.proofs.Picks.{pick_yes, pick_no}
 use Rattle.field.proofs.Forms.{form_stop, form_on}
