@@ -12,5 +12,5 @@ check_spec =
     (tie.spec
     (λ c κs. search rules)  -- start-requires
     (λ c κs. search rules)  -- rest-requires
-    (λ c. (search checked depth 3, (search (meant, checked) depth 4, search (totals_meant, checked) depth 4)))  -- returns
+    (λ c. (search checked depth 3, (search (meant, checked) depth 2, search (totals_meant, checked) depth 2)))  -- returns
     )
