@@ -1,3 +1,2 @@
-pub mod Filling
 pub mod Taking
 pub mod Carrying
