@@ -127,11 +127,8 @@ pub(crate) fn fill(rt: &HostRuntime, reader: &Reader, name: &[u8], buffer: &mut 
 pub fn told(rt: &HostRuntime, written: io::Result<()>) -> bool
     ensures { result ≡ is_ok written }
 {
-    match written {
-        Ok(()) => true,
-        Err(e) => {
-            fail(rt, b"standard output", &e);
-            false
-        }
+    if let Err(e) = &written {
+        fail(rt, b"standard output", e);
     }
+    written.is_ok()
 }
