@@ -10,7 +10,7 @@ use page::{put_digits, put_euros, put_text};
 use record::Totals;
 use record::kinds::code_of;
 use std::process::ExitCode;
-use streams::{Lines, Reader};
+use streams::{Lines, Printed, Reader};
 use telling::{put_field, put_name, put_words};
 
 // A line up to its byte 10, so far: its bytes, the last of them, whether that 10 was met, and whether a read failed.
@@ -245,8 +245,8 @@ fn put_acceptance(page: &mut [u8], at: usize, lines: u64, totals: Totals) -> usi
     put_text(page, f, b"\n")
 }
 
-// What is printed of a file, and whether that was done.
-fn is_said(rt: &HostRuntime, checked: Checked, line: LineShown, m: Extent, name: &[u8]) -> bool {
+// What is printed of a file, and what became of that.
+fn say(rt: &HostRuntime, checked: Checked, line: LineShown, m: Extent, name: &[u8]) -> Printed {
     let answer = checked.answer;
     let state = checked.state;
     let totals = state.totals;
@@ -254,10 +254,10 @@ fn is_said(rt: &HostRuntime, checked: Checked, line: LineShown, m: Extent, name:
     let a = put_name(&mut page, 0, name);
     if answer.number == 0 {
         let b = put_acceptance(&mut page, a, answer.line, totals);
-        return streams::told(rt, rt.write_all(part(&page, 0, b)));
+        return streams::print(rt, part(&page, 0, b));
     }
     let b = put_refusal(&mut page, a, answer, line, m);
-    streams::told(rt, rt.write_all(part(&page, 0, b)))
+    streams::print(rt, part(&page, 0, b))
 }
 
 fn check_file(rt: &HostRuntime, reader: &Reader, name: &[u8]) -> u8 {
@@ -273,7 +273,7 @@ fn check_file(rt: &HostRuntime, reader: &Reader, name: &[u8]) -> u8 {
     if lines.failed | m.failed {
         return streams::status_of(answer.number, false);
     }
-    streams::status_of(answer.number, is_said(rt, checked, line, m, name))
+    streams::status_after(answer.number, true, say(rt, checked, line, m, name))
 }
 
 // The file of argument i, or standard input.
@@ -289,10 +289,10 @@ fn check_input(rt: &HostRuntime, i: usize) -> u8 {
 fn main(rt: HostRuntime) -> ExitCode {
     let mut status = check_input(&rt, 1);
     for i in 2..usize::MAX {
-        if !streams::is_given(&rt, i) {
+        if (status == streams::UNREAD) | !streams::is_given(&rt, i) {
             break;
         }
         status = streams::worse(status, check_input(&rt, i));
     }
-    streams::end_with(status)
+    streams::end(status)
 }

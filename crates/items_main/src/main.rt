@@ -11,7 +11,7 @@ use reading::State;
 use record::types::type_text;
 use std::process::ExitCode;
 use std::rt::Env;
-use streams::{Lines, Reader};
+use streams::{Lines, Printed, Reader};
 
 // A search so far: the answer to the last line of the file, the state after it, what was found, whether it was the
 // last line, and whether all was read.
@@ -90,15 +90,15 @@ fn seek_lines(rt: &HostRuntime, before: Sought, reader: &Reader, name: &[u8]) ->
     sought
 }
 
-// What is printed of a file, and whether that was done.
-fn is_printed(rt: &HostRuntime, found: ItemRead, texts: &[u8], name: &[u8], several: bool) -> bool {
+// What is printed of a file, and what became of that.
+fn print(rt: &HostRuntime, found: ItemRead, texts: &[u8], name: &[u8], several: bool) -> bool {
     let mut page = [0u8; 8192];
     let fields = found.fields;
     let a = put_input(&mut page, name, several);
     let b = put_item(&mut page, a, fields, texts);
     let answer = found.answer;
     let c = put_answer(&mut page, b, answer);
-    streams::told(rt, rt.write_all(part(&page, 0, c)))
+    streams::print(rt, part(&page, 0, c))
 }
 
 fn unsought(search: Search) -> Sought {
@@ -126,8 +126,8 @@ fn seek_in_file(
     if sought.done {
         let mut texts = [32u8; 128];
         let found = search.answered(answer, &mut texts);
-        let printed = is_printed(rt, found, &texts, name, several);
-        return streams::status_of(found.answer.number, printed);
+        let printed = print(rt, found, &texts, name, several);
+        return streams::status_after(found.answer.number, true, printed);
     }
     streams::status_of(answer.number, false)
 }
@@ -184,7 +184,7 @@ fn seek(rt: &HostRuntime, batch: u64, item: u64) -> u8 {
     let several = streams::is_given(rt, 4);
     let mut status = seek_in_input(rt, 3, several, wanted);
     for i in 4..usize::MAX {
-        if !streams::is_given(rt, i) {
+        if (status == streams::UNREAD) | !streams::is_given(rt, i) {
             break;
         }
         status = streams::worse(status, seek_in_input(rt, i, several, wanted));
@@ -203,5 +203,5 @@ fn seek_asked(rt: &HostRuntime) -> u8 {
 }
 
 fn main(rt: HostRuntime) -> ExitCode {
-    streams::end_with(seek_asked(&rt))
+    streams::end(seek_asked(&rt))
 }

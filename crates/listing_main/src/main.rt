@@ -9,10 +9,10 @@ use reading::State;
 use record::types::group_text;
 use record::{ClosedBatch, Record, Totals};
 use std::process::ExitCode;
-use streams::{Lines, Reader};
+use streams::{Lines, Printed, Reader};
 
 // The listing so far: the answer to the last line, the state after it, how much is gathered, whether it was the last
-// line, and whether all was read and written.
+// line, whether all was read and written, and what became of what was written.
 #[derive(Clone, Copy)]
 struct Listed {
     answer: Answer,
@@ -20,6 +20,7 @@ struct Listed {
     at: usize,
     ended: bool,
     done: bool,
+    printed: Printed,
 }
 
 fn put_header(
@@ -80,8 +81,8 @@ fn is_full(size: usize, at: usize) -> bool {
 fn make_room(rt: &HostRuntime, before: Listed, page: &[u8]) -> Listed {
     let mut listed = before;
     if is_full(page.len(), listed.at) {
-        let written = streams::told(rt, rt.write_all(part(page, 0, listed.at)));
-        listed.done = listed.done & written;
+        listed.printed = streams::print(rt, part(page, 0, listed.at));
+        listed.done = listed.done & listed.printed.is_whole();
         listed.at = 0;
     }
     listed
@@ -140,6 +141,7 @@ fn unlisted(at: usize) -> Listed {
         at,
         ended: false,
         done: true,
+        printed: Printed::Whole,
     }
 }
 
@@ -148,13 +150,13 @@ fn put_totals(page: &mut [u8], at: usize, totals: Totals) -> usize {
     put_number(page, a, b"file-amount=", totals.amount, 1)
 }
 
-// The totals and the answer, after what is gathered; whether all was written.
-fn is_answered(rt: &HostRuntime, listed: Listed, page: &mut [u8]) -> bool {
+// The totals and the answer, after what is gathered; what became of them.
+fn put_rest(rt: &HostRuntime, listed: Listed, page: &mut [u8]) -> Printed {
     let state = listed.state;
     let answer = listed.answer;
     let a = put_totals(page, listed.at, state.totals);
     let end = put_answer(page, a, answer);
-    streams::told(rt, rt.write_all(part(page, 0, end)))
+    streams::print(rt, part(page, 0, end))
 }
 
 fn list_file(rt: &HostRuntime, reader: &Reader, name: &[u8], several: bool, page: &mut [u8]) -> u8 {
@@ -162,9 +164,9 @@ fn list_file(rt: &HostRuntime, reader: &Reader, name: &[u8], several: bool, page
     let read = list_lines(rt, unlisted(at), reader, name, page);
     let listed = make_room(rt, read, page);
     if listed.done {
-        return streams::status_of(listed.answer.number, is_answered(rt, listed, page));
+        return streams::status_after(listed.answer.number, true, put_rest(rt, listed, page));
     }
-    streams::status_of(listed.answer.number, false)
+    streams::status_after(listed.answer.number, false, listed.printed)
 }
 
 // The file of argument i, or standard input.
@@ -182,10 +184,10 @@ fn main(rt: HostRuntime) -> ExitCode {
     let several = streams::is_given(&rt, 2);
     let mut status = list_input(&rt, 1, several, &mut page);
     for i in 2..usize::MAX {
-        if !streams::is_given(&rt, i) {
+        if (status == streams::UNREAD) | !streams::is_given(&rt, i) {
             break;
         }
         status = streams::worse(status, list_input(&rt, i, several, &mut page));
     }
-    streams::end_with(status)
+    streams::end(status)
 }

@@ -10,7 +10,7 @@ use page::{put_answer, put_input, put_text};
 use reading::State;
 use record::Record;
 use std::process::ExitCode;
-use streams::{Lines, Reader, Source};
+use streams::{Lines, Printed, Reader, Source};
 use telling::put_name;
 use writer::Entry;
 
@@ -18,7 +18,7 @@ use writer::Entry;
 const NO_MORE: u8 = 3;
 
 // A file so far: the answer to the last line, the reader's state after it and the writer's, how much of the page is
-// filled, whether it was the last line, and whether all was read and all was written.
+// filled, whether it was the last line, whether all was read, and what became of what was written.
 #[derive(Clone, Copy)]
 struct Copied {
     answer: Answer,
@@ -27,7 +27,7 @@ struct Copied {
     at: usize,
     ended: bool,
     read: bool,
-    written: bool,
+    printed: Printed,
 }
 
 // The record to write of a record that was read: none of a city.
@@ -132,8 +132,8 @@ fn copy_line(before: Copied, rest: &[u8], page: &mut [u8]) -> Copied {
 fn make_room(rt: &HostRuntime, before: Copied, page: &[u8]) -> Copied {
     let mut copied = before;
     if copied.ended | (page.len() <= copied.at) {
-        copied.written = streams::told(rt, rt.write_all(part(page, 0, copied.at)));
-        copied.ended = copied.ended | !copied.written;
+        copied.printed = streams::print(rt, part(page, 0, copied.at));
+        copied.ended = copied.ended | !copied.printed.is_whole();
         copied.at = 0;
     }
     copied
@@ -185,7 +185,7 @@ fn unwritten() -> Copied {
         at: 0,
         ended: false,
         read: true,
-        written: true,
+        printed: Printed::Whole,
     }
 }
 
@@ -210,8 +210,8 @@ fn tell_changed(rt: &HostRuntime, name: &[u8]) {
 fn copy_again(rt: &HostRuntime, source: &Source, name: &[u8], page: &mut [u8]) -> u8 {
     let lines = streams::again(rt, source, name);
     let copied = copy_lines(rt, lines, &source.reader, name, page);
-    if !copied.written {
-        return NO_MORE;
+    if !copied.printed.is_whole() {
+        return streams::worse(NO_MORE, streams::status_after(0, true, copied.printed));
     }
     if copied.read {
         if copied.answer.number != 0 {
@@ -271,10 +271,10 @@ fn main(rt: HostRuntime) -> ExitCode {
     let several = streams::is_given(&rt, 2);
     let mut status = copy_input(&rt, 1, several, &mut page);
     for i in 2..usize::MAX {
-        if !streams::is_given(&rt, i) {
+        if (status == streams::UNREAD) | !streams::is_given(&rt, i) {
             break;
         }
         status = copy_next_input(&rt, i, status, several, &mut page);
     }
-    streams::end_with(status)
+    streams::end(status)
 }

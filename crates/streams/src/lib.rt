@@ -3,27 +3,28 @@
 // gives or takes.
 #![tactic(auto)]
 
-ghost use Rattle.std.specs.Prelude.{◌≡◌, ◌+◌, ◌≤◌, length, is_ok};
+ghost use Rattle.std.specs.Prelude.{◌≡◌, ◌+◌, ◌≤◌, length};
 ghost use Rattle.streams.specs.Counts.{IsPrefixLen};
 
 use failures::{fail, tell};
 use reader::open_named;
 use std::env::FillError;
-use std::io;
 use std::io::Error;
 use std::rt::Env;
 
 mod anew;
 mod failures;
 mod lines;
+mod output;
 mod reader;
 mod status;
 mod twice;
 
 pub use anew::seekable;
 pub use lines::Lines;
+pub use output::{Printed, outcome, print, told};
 pub use reader::Reader;
-pub use status::{end_with, status_of, worse};
+pub use status::{UNREAD, end, end_with, status_after, status_of, worse};
 pub use twice::{Source, again, rereadable};
 
 // The length of a buffer that lines are read into, or written from: 24 times 51 times 52, a whole number of lines with
@@ -121,14 +122,4 @@ pub(crate) fn fill(rt: &HostRuntime, reader: &Reader, name: &[u8], buffer: &mut 
         count: done,
         failed: false,
     }
-}
-
-// Whether standard output was written, told on standard error where it was not.
-pub fn told(rt: &HostRuntime, written: io::Result<()>) -> bool
-    ensures { result ≡ is_ok written }
-{
-    if let Err(e) = &written {
-        fail(rt, b"standard output", e);
-    }
-    written.is_ok()
 }

@@ -1,9 +1,13 @@
 // How a program ends: `main` returns the status, and `clieop` ends with it.
 ghost use Rattle.std.specs.Prelude.{◌≡◌, ◌+◌, max};
 ghost use Rattle.std.specs.Process.{exit_status};
-ghost use Rattle.streams.specs.Status.{status_of, status_digit};
+ghost use Rattle.streams.specs.Status.{status_of, status_after, status_digit, exit_of};
 
+use crate::Printed;
 use std::process::ExitCode;
+
+// Of a file whose output nobody reads any more: what a program ends with that the signal of a closed pipe kills.
+pub const UNREAD: u8 = 141;
 
 // Of one file: the number of its answer, and whether all was read and written.
 #[tactic(auto, unfolding(crate::specs::Status::status_of, machine::specs::Lists::pick))]
@@ -17,6 +21,18 @@ pub fn status_of(number: u8, done: bool) -> u8
         return 1;
     }
     2
+}
+
+// The same with what became of what was printed of it.
+#[tactic(auto, unfolding(crate::specs::Status::status_after))]
+pub fn status_after(number: u8, done: bool, printed: Printed) -> u8
+    ensures { result ≡ status_after number done printed }
+{
+    match printed {
+        Printed::Whole => status_of(number, done),
+        Printed::Failed => status_of(number, false),
+        Printed::Unread => UNREAD,
+    }
 }
 
 // Of two files.
@@ -46,4 +62,15 @@ pub fn end_with(status: u8) -> ExitCode
 {
     let digit = digit_of(status);
     ExitCode::from(digit)
+}
+
+// The same, but 141 where nobody reads the output any more.
+#[tactic(auto, unfolding(crate::specs::Status::exit_of, crate::specs::Status::status_digit, machine::specs::Lists::pick))]
+pub fn end(status: u8) -> ExitCode
+    ensures { exit_status result ≡ exit_of status }
+{
+    if status == UNREAD {
+        return ExitCode::from(UNREAD);
+    }
+    end_with(status)
 }
