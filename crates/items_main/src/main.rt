@@ -91,7 +91,7 @@ fn seek_lines(rt: &HostRuntime, before: Sought, reader: &Reader, name: &[u8]) ->
 }
 
 // What is printed of a file, and what became of that.
-fn print(rt: &HostRuntime, found: ItemRead, texts: &[u8], name: &[u8], several: bool) -> bool {
+fn print(rt: &HostRuntime, found: ItemRead, texts: &[u8], name: &[u8], several: bool) -> Printed {
     let mut page = [0u8; 8192];
     let fields = found.fields;
     let a = put_input(&mut page, name, several);
