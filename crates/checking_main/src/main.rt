@@ -10,6 +10,7 @@ use page::{put_digits, put_euros, put_text};
 use record::Totals;
 use record::kinds::code_of;
 use std::process::ExitCode;
+use std::rt::Env;
 use streams::{Lines, Printed, Reader};
 use telling::{put_field, put_name, put_words};
 
@@ -254,10 +255,10 @@ fn say(rt: &HostRuntime, checked: Checked, line: LineShown, m: Extent, name: &[u
     let a = put_name(&mut page, 0, name);
     if answer.number == 0 {
         let b = put_acceptance(&mut page, a, answer.line, totals);
-        return streams::print(rt, part(&page, 0, b));
+        return streams::outcome(rt, rt.write_all(part(&page, 0, b)));
     }
     let b = put_refusal(&mut page, a, answer, line, m);
-    streams::print(rt, part(&page, 0, b))
+    streams::outcome(rt, rt.write_all(part(&page, 0, b)))
 }
 
 fn check_file(rt: &HostRuntime, reader: &Reader, name: &[u8]) -> u8 {
@@ -289,7 +290,7 @@ fn check_input(rt: &HostRuntime, i: usize) -> u8 {
 fn main(rt: HostRuntime) -> ExitCode {
     let mut status = check_input(&rt, 1);
     for i in 2..usize::MAX {
-        if (status == streams::UNREAD) | !streams::is_given(&rt, i) {
+        if (status == streams::UNREAD) | !streams::is_given(rt.arg(i, &mut [])) {
             break;
         }
         status = streams::worse(status, check_input(&rt, i));

@@ -98,7 +98,7 @@ fn print(rt: &HostRuntime, found: ItemRead, texts: &[u8], name: &[u8], several: 
     let b = put_item(&mut page, a, fields, texts);
     let answer = found.answer;
     let c = put_answer(&mut page, b, answer);
-    streams::print(rt, part(&page, 0, c))
+    streams::outcome(rt, rt.write_all(part(&page, 0, c)))
 }
 
 fn unsought(search: Search) -> Sought {
@@ -181,10 +181,10 @@ fn number(rt: &HostRuntime, i: usize) -> Digits {
 
 fn seek(rt: &HostRuntime, batch: u64, item: u64) -> u8 {
     let wanted = Search::start(batch, item);
-    let several = streams::is_given(rt, 4);
+    let several = streams::is_given(rt.arg(4, &mut []));
     let mut status = seek_in_input(rt, 3, several, wanted);
     for i in 4..usize::MAX {
-        if (status == streams::UNREAD) | !streams::is_given(rt, i) {
+        if (status == streams::UNREAD) | !streams::is_given(rt.arg(i, &mut [])) {
             break;
         }
         status = streams::worse(status, seek_in_input(rt, i, several, wanted));

@@ -9,6 +9,7 @@ use reading::State;
 use record::types::group_text;
 use record::{ClosedBatch, Record, Totals};
 use std::process::ExitCode;
+use std::rt::Env;
 use streams::{Lines, Printed, Reader};
 
 // The listing so far: the answer to the last line, the state after it, how much is gathered, whether it was the last
@@ -81,7 +82,7 @@ fn is_full(size: usize, at: usize) -> bool {
 fn make_room(rt: &HostRuntime, before: Listed, page: &[u8]) -> Listed {
     let mut listed = before;
     if is_full(page.len(), listed.at) {
-        listed.printed = streams::print(rt, part(page, 0, listed.at));
+        listed.printed = streams::outcome(rt, rt.write_all(part(page, 0, listed.at)));
         listed.done = listed.done & listed.printed.is_whole();
         listed.at = 0;
     }
@@ -156,7 +157,7 @@ fn put_rest(rt: &HostRuntime, listed: Listed, page: &mut [u8]) -> Printed {
     let answer = listed.answer;
     let a = put_totals(page, listed.at, state.totals);
     let end = put_answer(page, a, answer);
-    streams::print(rt, part(page, 0, end))
+    streams::outcome(rt, rt.write_all(part(page, 0, end)))
 }
 
 fn list_file(rt: &HostRuntime, reader: &Reader, name: &[u8], several: bool, page: &mut [u8]) -> u8 {
@@ -181,10 +182,10 @@ fn list_input(rt: &HostRuntime, i: usize, several: bool, page: &mut [u8]) -> u8 
 
 fn main(rt: HostRuntime) -> ExitCode {
     let mut page = [0u8; 8192];
-    let several = streams::is_given(&rt, 2);
+    let several = streams::is_given(rt.arg(2, &mut []));
     let mut status = list_input(&rt, 1, several, &mut page);
     for i in 2..usize::MAX {
-        if (status == streams::UNREAD) | !streams::is_given(&rt, i) {
+        if (status == streams::UNREAD) | !streams::is_given(rt.arg(i, &mut [])) {
             break;
         }
         status = streams::worse(status, list_input(&rt, i, several, &mut page));

@@ -10,6 +10,7 @@ use page::{put_answer, put_input, put_text};
 use reading::State;
 use record::Record;
 use std::process::ExitCode;
+use std::rt::Env;
 use streams::{Lines, Printed, Reader, Source};
 use telling::put_name;
 use writer::Entry;
@@ -132,7 +133,7 @@ fn copy_line(before: Copied, rest: &[u8], page: &mut [u8]) -> Copied {
 fn make_room(rt: &HostRuntime, before: Copied, page: &[u8]) -> Copied {
     let mut copied = before;
     if copied.ended | (page.len() <= copied.at) {
-        copied.printed = streams::print(rt, part(page, 0, copied.at));
+        copied.printed = streams::outcome(rt, rt.write_all(part(page, 0, copied.at)));
         copied.ended = copied.ended | !copied.printed.is_whole();
         copied.at = 0;
     }
@@ -268,10 +269,10 @@ fn copy_next_input(rt: &HostRuntime, i: usize, before: u8, several: bool, page: 
 
 fn main(rt: HostRuntime) -> ExitCode {
     let mut page = [0u8; streams::BUFFER];
-    let several = streams::is_given(&rt, 2);
+    let several = streams::is_given(rt.arg(2, &mut []));
     let mut status = copy_input(&rt, 1, several, &mut page);
     for i in 2..usize::MAX {
-        if (status == streams::UNREAD) | !streams::is_given(&rt, i) {
+        if (status == streams::UNREAD) | !streams::is_given(rt.arg(i, &mut [])) {
             break;
         }
         status = copy_next_input(&rt, i, status, several, &mut page);

@@ -5,6 +5,7 @@
 
 ghost use Rattle.std.specs.Prelude.{◌≡◌, ◌+◌, ◌≤◌, length};
 ghost use Rattle.streams.specs.Counts.{IsPrefixLen};
+ghost use Rattle.streams.specs.Opened.{is_given};
 
 use failures::{fail, tell};
 use reader::open_named;
@@ -22,7 +23,7 @@ mod twice;
 
 pub use anew::seekable;
 pub use lines::Lines;
-pub use output::{Printed, outcome, print, told};
+pub use output::{Printed, outcome, told};
 pub use reader::Reader;
 pub use status::{UNREAD, end, end_with, status_after, status_of, worse};
 pub use twice::{Source, again, rereadable};
@@ -75,11 +76,14 @@ pub fn open(rt: &HostRuntime, i: usize, name: &mut [u8]) -> Input
     }
 }
 
-// Whether there is an argument i.
-pub fn is_given(rt: &HostRuntime, i: usize) -> bool {
-    match rt.arg(i, &mut []) {
+// Whether there is an argument, by what an attempt to read it came to.
+pub fn is_given(read: Result<usize, FillError>) -> bool
+    ensures { result ≡ is_given read }
+{
+    match read {
+        Ok(_) => true,
         Err(FillError::NotPresent) => false,
-        _ => true,
+        Err(FillError::TooLong) => true,
     }
 }
 

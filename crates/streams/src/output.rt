@@ -1,5 +1,5 @@
 // Standard output, and what became of what was printed there.
-ghost use Rattle.std.specs.Prelude.{◌≡◌, IsOk, is_ok, false};
+ghost use Rattle.std.specs.Prelude.{◌≡◌, is_ok, true, false};
 ghost use Rattle.streams.specs.Status.{is_whole};
 
 use crate::failures::fail;
@@ -20,7 +20,8 @@ impl Printed {
     {
         match self {
             Printed::Whole => true,
-            _ => false,
+            Printed::Failed => false,
+            Printed::Unread => false,
         }
     }
 }
@@ -29,14 +30,17 @@ impl Printed {
 pub fn told(rt: &HostRuntime, written: io::Result<()>) -> bool
     ensures { result ≡ is_ok written }
 {
-    if let Err(e) = &written {
-        fail(rt, b"standard output", e);
+    match written {
+        Ok(()) => true,
+        Err(e) => {
+            fail(rt, b"standard output", &e);
+            false
+        }
     }
-    written.is_ok()
 }
 
 fn is_unread(written: &io::Result<()>) -> bool
-    ensures { IsOk written.now → result ≡ false }
+    ensures { result ≡ true → is_ok written.now ≡ false }
 {
     match written {
         Ok(()) => false,
@@ -55,9 +59,4 @@ pub fn outcome(rt: &HostRuntime, written: io::Result<()>) -> Printed
         return Printed::Whole;
     }
     Printed::Failed
-}
-
-// Prints some bytes.
-pub fn print(rt: &HostRuntime, bytes: &[u8]) -> Printed {
-    outcome(rt, rt.write_all(bytes))
 }

@@ -30,7 +30,8 @@ impl Reader {
     {
         match self {
             Reader::Closed => false,
-            _ => true,
+            Reader::StandardInput(_) => true,
+            Reader::OpenFile(_) => true,
         }
     }
 

@@ -111,7 +111,6 @@ fn spooled(rt: &HostRuntime, reader: &Reader, name: &[u8], error: Error) -> Read
 }
 
 // An input that can be read twice: itself, or a temporary file of the same bytes.
-#[tactic(auto, unfolding(machine::specs::Lists::pick))]
 pub fn rereadable(rt: &HostRuntime, reader: Reader, name: &[u8]) -> Source
     ensures { result ≡ pick result.temporary (from_start result.reader) (from_offset reader result.start) }
 {
