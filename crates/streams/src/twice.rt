@@ -128,17 +128,22 @@ pub fn rereadable(rt: &HostRuntime, reader: Reader, name: &[u8]) -> Source
     }
 }
 
-// The lines of it once more.
-pub fn again(rt: &HostRuntime, source: &Source, name: &[u8]) -> Lines
-    ensures { result ≡ unread_if result.failed }
-{
-    let failed = match source.reader.go_to(source.start) {
+// Whether it could not go back to where its reading begins, which is told.
+fn stays(rt: &HostRuntime, source: &Source, name: &[u8]) -> bool {
+    match source.reader.go_to(source.start) {
         Ok(_) => false,
         Err(e) => {
             tell(rt, name, &e);
             true
         }
-    };
+    }
+}
+
+// The lines of it once more.
+pub fn again(rt: &HostRuntime, source: &Source, name: &[u8]) -> Lines
+    ensures { result ≡ unread_if result.failed }
+{
+    let failed = stays(rt, source, name);
     Lines {
         at: 0,
         end: 0,

@@ -2,8 +2,5 @@
 use mathlib.Core.Path.{refl}
 use Rattle.streams.proofs.twice.again.Goals as goal
 
-pub returns-in-Ok : goal.returns-in-Ok
-returns-in-Ok c = search refl
-
-pub returns-in-Err : goal.returns-in-Err
-returns-in-Err c = search refl
+pub returns : goal.returns
+returns c = search refl
