@@ -6,7 +6,7 @@ ghost use Rattle.file.specs.Reached.{InRun};
 
 use format::Answer;
 use reading::State;
-use streams::Lines;
+use streams::{Lines, Reader};
 
 // The answer to the last line, the state after it, and what is taken of the buffer: a refused line stands next in it.
 #[derive(Drop)]
@@ -42,21 +42,18 @@ impl Checked {
     }
 }
 
-// Checks an input up to the first line that is refused, or its end. (A proved loop has to end, so this one counts its
-// turns down from a number that no run uses up.)
-pub fn check(fd: i32, name: &[u8], buffer: &mut [u8]) -> Checked
+// Checks an input up to the first line that is refused, or its end.
+pub fn check(rt: &HostRuntime, reader: &Reader, name: &[u8], buffer: &mut [u8]) -> Checked
     ensures { Answered result buffer.new }
 {
     let mut lines = Lines::start();
     let mut checked = answered(State::start(), lines, buffer);
-    let mut turns = u64::MAX;
-    while 0 < turns {
-        lines = lines.next(fd, name, buffer);
+    for _ in 0..u64::MAX {
+        lines = lines.next(rt, reader, name, buffer);
         checked = checked.next(lines, buffer);
         if (checked.answer.number != 0) | (lines.end <= lines.at) {
             return checked;
         }
-        turns -= 1;
     }
     checked
 }

@@ -6,15 +6,16 @@
 use checking::Checked;
 use field::bytes::part;
 use format::{Answer, Code};
-use libc::STDOUT_FILENO;
 use page::{put_digits, put_euros, put_text};
 use record::Totals;
 use record::kinds::code_of;
-use streams::Lines;
+use std::process::ExitCode;
+use std::rt::Env;
+use streams::{Lines, Printed, Reader};
 use telling::{put_field, put_name, put_words};
 
 // A line up to its byte 10, so far: its bytes, the last of them, whether that 10 was met, and whether a read failed.
-#[derive(Drop)]
+#[derive(Clone, Copy)]
 struct Extent {
     length: u64,
     last: u8,
@@ -23,7 +24,7 @@ struct Extent {
 }
 
 // A refused line as it is shown: its code, its first 50 characters, and how many of them.
-#[derive(Drop)]
+#[derive(Clone, Copy)]
 struct LineShown {
     code: Code,
     text: [u8; 50],
@@ -57,10 +58,8 @@ fn with_byte(before: Extent, b: u8) -> Extent {
 
 fn measured(before: Extent, bytes: &[u8]) -> Extent {
     let mut m = before;
-    let mut i = 0;
-    while i < bytes.len() {
-        m = with_byte(m, bytes[i]);
-        i += 1;
+    for b in bytes {
+        m = with_byte(m, *b);
     }
     m
 }
@@ -78,18 +77,22 @@ fn length_of(m: Extent) -> u64 {
 }
 
 // The line that stands next, measured up to its end, however far that is.
-fn measured_on(start: Lines, fd: i32, name: &[u8], buffer: &mut [u8]) -> Extent {
+fn measured_on(
+    rt: &HostRuntime,
+    start: Lines,
+    reader: &Reader,
+    name: &[u8],
+    buffer: &mut [u8],
+) -> Extent {
     let mut lines = start;
     let mut m = unmeasured();
-    let mut turns = u64::MAX;
-    while 0 < turns {
+    for _ in 0..u64::MAX {
         m = measured(m, lines.line(buffer));
         if m.ended | (lines.end <= lines.at) {
             m.failed = lines.failed;
             return m;
         }
-        lines = lines.next(fd, name, buffer);
-        turns -= 1;
+        lines = lines.next(rt, reader, name, buffer);
     }
     m
 }
@@ -120,22 +123,19 @@ fn visible(bytes: &[u8], i: usize) -> u8 {
 
 fn shown_text(bytes: &[u8]) -> [u8; 50] {
     let mut text = [32u8; 50];
-    let mut i: usize = 0;
-    while i < 50 {
+    for i in 0..50 {
         text[i] = visible(bytes, i);
-        i += 1;
     }
     text
 }
 
 // How many characters of a text there are up to its last that is no space.
 fn filled(text: &[u8]) -> usize {
-    let mut n = text.len();
-    while 0 < n {
-        if text[n - 1] != 32 {
-            return n;
+    let mut n = 0;
+    for (i, b) in text.iter().enumerate() {
+        if *b != 32 {
+            n = i + 1;
         }
-        n -= 1;
     }
     n
 }
@@ -246,8 +246,8 @@ fn put_acceptance(page: &mut [u8], at: usize, lines: u64, totals: Totals) -> usi
     put_text(page, f, b"\n")
 }
 
-// What is printed of a file, and whether that was done.
-fn is_said(checked: Checked, line: LineShown, m: Extent, name: &[u8]) -> bool {
+// What is printed of a file, and what became of that.
+fn say(rt: &HostRuntime, checked: Checked, line: LineShown, m: Extent, name: &[u8]) -> Printed {
     let answer = checked.answer;
     let state = checked.state;
     let totals = state.totals;
@@ -255,48 +255,45 @@ fn is_said(checked: Checked, line: LineShown, m: Extent, name: &[u8]) -> bool {
     let a = put_name(&mut page, 0, name);
     if answer.number == 0 {
         let b = put_acceptance(&mut page, a, answer.line, totals);
-        return streams::told(io::write_all(STDOUT_FILENO, part(&page, 0, b)));
+        return streams::outcome(rt, rt.write_all(part(&page, 0, b)));
     }
     let b = put_refusal(&mut page, a, answer, line, m);
-    streams::told(io::write_all(STDOUT_FILENO, part(&page, 0, b)))
+    streams::outcome(rt, rt.write_all(part(&page, 0, b)))
 }
 
-fn check_file(fd: i32, name: &[u8]) -> u8 {
+fn check_file(rt: &HostRuntime, reader: &Reader, name: &[u8]) -> u8 {
     let mut buffer = [0u8; streams::BUFFER];
-    let checked = checking::check(fd, name, &mut buffer);
+    let checked = checking::check(rt, reader, name, &mut buffer);
     let answer = checked.answer;
     let lines = checked.lines;
     let line = shown(answer.number, lines.line(&buffer));
     let mut m = unmeasured();
     if answer.number == format::BROKEN_LINE {
-        m = measured_on(lines, fd, name, &mut buffer);
+        m = measured_on(rt, lines, reader, name, &mut buffer);
     }
     if lines.failed | m.failed {
         return streams::status_of(answer.number, false);
     }
-    streams::status_of(answer.number, is_said(checked, line, m, name))
+    streams::status_after(answer.number, true, say(rt, checked, line, m, name))
 }
 
 // The file of argument i, or standard input.
-fn check_input(i: usize) -> u8 {
-    let mut name = io::buffer();
-    let input = streams::open(i, &mut name);
-    let n = input.characters;
-    if input.fd < 0 {
-        return streams::status_of(0, false);
+fn check_input(rt: &HostRuntime, i: usize) -> u8 {
+    let mut name = [0u8; 4096];
+    let input = streams::open(rt, i, &mut name);
+    if input.reader.is_open() {
+        return check_file(rt, &input.reader, &name[..input.characters]);
     }
-    let status = check_file(input.fd, &name[..n]);
-    libc::close(input.fd);
-    status
+    streams::status_of(0, false)
 }
 
-fn main() {
-    let arguments = os::arg_count();
-    let mut status = check_input(1);
-    let mut i = 2;
-    while i < arguments {
-        status = streams::worse(status, check_input(i));
-        i += 1;
+fn main(rt: HostRuntime) -> ExitCode {
+    let mut status = check_input(&rt, 1);
+    for i in 2..usize::MAX {
+        if (status == streams::UNREAD) | !streams::is_given(rt.arg(i, &mut [])) {
+            break;
+        }
+        status = streams::worse(status, check_input(&rt, i));
     }
-    streams::end_with(status);
+    streams::end(status)
 }

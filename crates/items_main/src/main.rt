@@ -6,15 +6,16 @@ use field::bytes::{is_digits, part};
 use field::numbers::Digits;
 use format::{Answer, TypeRead};
 use items::{ItemFields, ItemRead, Search};
-use libc::{STDERR_FILENO, STDOUT_FILENO};
 use page::{put_answer, put_input, put_line, put_number};
 use reading::State;
 use record::types::type_text;
-use streams::Lines;
+use std::process::ExitCode;
+use std::rt::Env;
+use streams::{Lines, Printed, Reader};
 
 // A search so far: the answer to the last line of the file, the state after it, what was found, whether it was the
 // last line, and whether all was read.
-#[derive(Drop)]
+#[derive(Clone, Copy)]
 struct Sought {
     answer: Answer,
     state: State,
@@ -74,33 +75,30 @@ fn seek_line(before: Sought, rest: &[u8], failed: bool) -> Sought {
     }
 }
 
-// The lines of an input, up to the first that is refused. (A proved loop has to end, so this one counts its turns down
-// from a number that no run uses up.)
-fn seek_lines(before: Sought, fd: i32, name: &[u8]) -> Sought {
+// The lines of an input, up to the first that is refused.
+fn seek_lines(rt: &HostRuntime, before: Sought, reader: &Reader, name: &[u8]) -> Sought {
     let mut buffer = [0u8; streams::BUFFER];
     let mut lines = Lines::start();
     let mut sought = before;
-    let mut turns = u64::MAX;
-    while 0 < turns {
-        lines = lines.next(fd, name, &mut buffer);
+    for _ in 0..u64::MAX {
+        lines = lines.next(rt, reader, name, &mut buffer);
         sought = seek_line(sought, lines.line(&buffer), lines.failed);
         if sought.ended {
             return sought;
         }
-        turns -= 1;
     }
     sought
 }
 
-// What is printed of a file, and whether that was done.
-fn is_printed(found: ItemRead, texts: &[u8], name: &[u8], several: bool) -> bool {
+// What is printed of a file, and what became of that.
+fn print(rt: &HostRuntime, found: ItemRead, texts: &[u8], name: &[u8], several: bool) -> Printed {
     let mut page = [0u8; 8192];
     let fields = found.fields;
     let a = put_input(&mut page, name, several);
     let b = put_item(&mut page, a, fields, texts);
     let answer = found.answer;
     let c = put_answer(&mut page, b, answer);
-    streams::told(io::write_all(STDOUT_FILENO, part(&page, 0, c)))
+    streams::outcome(rt, rt.write_all(part(&page, 0, c)))
 }
 
 fn unsought(search: Search) -> Sought {
@@ -115,30 +113,39 @@ fn unsought(search: Search) -> Sought {
     }
 }
 
-fn seek_in_file(fd: i32, name: &[u8], several: bool, wanted: Search) -> u8 {
-    let sought = seek_lines(unsought(wanted), fd, name);
+fn seek_in_file(
+    rt: &HostRuntime,
+    reader: &Reader,
+    name: &[u8],
+    several: bool,
+    wanted: Search,
+) -> u8 {
+    let sought = seek_lines(rt, unsought(wanted), reader, name);
     let answer = sought.answer;
     let search = sought.search;
     if sought.done {
         let mut texts = [32u8; 128];
         let found = search.answered(answer, &mut texts);
-        let printed = is_printed(found, &texts, name, several);
-        return streams::status_of(found.answer.number, printed);
+        let printed = print(rt, found, &texts, name, several);
+        return streams::status_after(found.answer.number, true, printed);
     }
     streams::status_of(answer.number, false)
 }
 
 // The file of argument i, or standard input.
-fn seek_in_input(i: usize, several: bool, wanted: Search) -> u8 {
-    let mut name = io::buffer();
-    let input = streams::open(i, &mut name);
-    let n = input.characters;
-    if input.fd < 0 {
-        return streams::status_of(0, false);
+fn seek_in_input(rt: &HostRuntime, i: usize, several: bool, wanted: Search) -> u8 {
+    let mut name = [0u8; 4096];
+    let input = streams::open(rt, i, &mut name);
+    if input.reader.is_open() {
+        return seek_in_file(
+            rt,
+            &input.reader,
+            &name[..input.characters],
+            several,
+            wanted,
+        );
     }
-    let status = seek_in_file(input.fd, &name[..n], several, wanted);
-    libc::close(input.fd);
-    status
+    streams::status_of(0, false)
 }
 
 // A number with one more digit. Beyond 17 digits it stays as large as it is: no file has so many batches or items.
@@ -153,47 +160,48 @@ fn with_digit(value: u64, digit: u8) -> u64 {
     value * 10 + units as u64
 }
 
-// The number that argument i is.
-fn number(i: usize) -> Digits {
-    let mut text = [0u8; 4096];
-    let n = os::arg(i, &mut text);
-    let digits = part(&text, 0, n);
+// The number that the digits are.
+fn number_of(digits: &[u8]) -> Digits {
     let ok = (0 < digits.len()) & is_digits(digits);
     let mut value: u64 = 0;
-    let mut k: usize = 0;
-    while k < digits.len() {
-        value = with_digit(value, digits[k]);
-        k += 1;
+    for digit in digits {
+        value = with_digit(value, *digit);
     }
     Digits { ok, value }
 }
 
-fn seek(batch: u64, item: u64) -> u8 {
-    let arguments = os::arg_count();
+// The number that argument i is. Without that argument, or where it is longer than any number, there is none.
+fn number(rt: &HostRuntime, i: usize) -> Digits {
+    let mut text = [0u8; 4096];
+    match rt.arg(i, &mut text) {
+        Ok(n) => number_of(part(&text, 0, n)),
+        Err(_) => number_of(b""),
+    }
+}
+
+fn seek(rt: &HostRuntime, batch: u64, item: u64) -> u8 {
     let wanted = Search::start(batch, item);
-    let several = 4 < arguments;
-    let mut status = seek_in_input(3, several, wanted);
-    let mut i = 4;
-    while i < arguments {
-        status = streams::worse(status, seek_in_input(i, several, wanted));
-        i += 1;
+    let several = streams::is_given(rt.arg(4, &mut []));
+    let mut status = seek_in_input(rt, 3, several, wanted);
+    for i in 4..usize::MAX {
+        if (status == streams::UNREAD) | !streams::is_given(rt.arg(i, &mut [])) {
+            break;
+        }
+        status = streams::worse(status, seek_in_input(rt, i, several, wanted));
     }
     status
 }
 
-fn seek_asked() -> u8 {
-    let batch = number(1);
-    let item = number(2);
+fn seek_asked(rt: &HostRuntime) -> u8 {
+    let batch = number(rt, 1);
+    let item = number(rt, 2);
     if batch.ok & item.ok {
-        return seek(batch.value, item.value);
+        return seek(rt, batch.value, item.value);
     }
-    io::write_all(
-        STDERR_FILENO,
-        b"usage: clieop item B K [FILE..], where B and K are numbers\n",
-    );
+    let _ = eprintln!(rt; "usage: clieop item B K [FILE..], where B and K are numbers");
     streams::status_of(0, false)
 }
 
-fn main() {
-    streams::end_with(seek_asked());
+fn main(rt: HostRuntime) -> ExitCode {
+    streams::end(seek_asked(&rt))
 }

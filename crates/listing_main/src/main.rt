@@ -4,22 +4,24 @@
 
 use field::bytes::part;
 use format::{Answer, Group, codes};
-use libc::STDOUT_FILENO;
 use page::{put_answer, put_input, put_line, put_number};
 use reading::State;
 use record::types::group_text;
 use record::{ClosedBatch, Record, Totals};
-use streams::Lines;
+use std::process::ExitCode;
+use std::rt::Env;
+use streams::{Lines, Printed, Reader};
 
 // The listing so far: the answer to the last line, the state after it, how much is gathered, whether it was the last
-// line, and whether all was read and written.
-#[derive(Drop)]
+// line, whether all was read and written, and what became of what was written.
+#[derive(Clone, Copy)]
 struct Listed {
     answer: Answer,
     state: State,
     at: usize,
     ended: bool,
     done: bool,
+    printed: Printed,
 }
 
 fn put_header(
@@ -77,19 +79,25 @@ fn is_full(size: usize, at: usize) -> bool {
 }
 
 // Writes what is gathered where the page is full.
-fn make_room(before: Listed, page: &[u8]) -> Listed {
+fn make_room(rt: &HostRuntime, before: Listed, page: &[u8]) -> Listed {
     let mut listed = before;
     if is_full(page.len(), listed.at) {
-        let written = streams::told(io::write_all(STDOUT_FILENO, part(page, 0, listed.at)));
-        listed.done = listed.done & written;
+        listed.printed = streams::outcome(rt, rt.write_all(part(page, 0, listed.at)));
+        listed.done = listed.done & listed.printed.is_whole();
         listed.at = 0;
     }
     listed
 }
 
 // One line of what the buffer holds, or the end where there is none; whether all was read until there.
-fn list_line(before: Listed, rest: &[u8], failed: bool, page: &mut [u8]) -> Listed {
-    let mut listed = make_room(before, page);
+fn list_line(
+    rt: &HostRuntime,
+    before: Listed,
+    rest: &[u8],
+    failed: bool,
+    page: &mut [u8],
+) -> Listed {
+    let mut listed = make_room(rt, before, page);
     let state = listed.state;
     let r = state.line(rest);
     let read = r.read;
@@ -104,20 +112,23 @@ fn list_line(before: Listed, rest: &[u8], failed: bool, page: &mut [u8]) -> List
     listed
 }
 
-// The lines of an input, up to the first that is refused. (A proved loop has to end, so this one counts its turns down
-// from a number that no run uses up.)
-fn list_lines(before: Listed, fd: i32, name: &[u8], page: &mut [u8]) -> Listed {
+// The lines of an input, up to the first that is refused.
+fn list_lines(
+    rt: &HostRuntime,
+    before: Listed,
+    reader: &Reader,
+    name: &[u8],
+    page: &mut [u8],
+) -> Listed {
     let mut buffer = [0u8; streams::BUFFER];
     let mut lines = Lines::start();
     let mut listed = before;
-    let mut turns = u64::MAX;
-    while 0 < turns {
-        lines = lines.next(fd, name, &mut buffer);
-        listed = list_line(listed, lines.line(&buffer), lines.failed, page);
+    for _ in 0..u64::MAX {
+        lines = lines.next(rt, reader, name, &mut buffer);
+        listed = list_line(rt, listed, lines.line(&buffer), lines.failed, page);
         if listed.ended {
             return listed;
         }
-        turns -= 1;
     }
     listed
 }
@@ -131,6 +142,7 @@ fn unlisted(at: usize) -> Listed {
         at,
         ended: false,
         done: true,
+        printed: Printed::Whole,
     }
 }
 
@@ -139,47 +151,44 @@ fn put_totals(page: &mut [u8], at: usize, totals: Totals) -> usize {
     put_number(page, a, b"file-amount=", totals.amount, 1)
 }
 
-// The totals and the answer, after what is gathered; whether all was written.
-fn is_answered(listed: Listed, page: &mut [u8]) -> bool {
+// The totals and the answer, after what is gathered; what became of them.
+fn put_rest(rt: &HostRuntime, listed: Listed, page: &mut [u8]) -> Printed {
     let state = listed.state;
     let answer = listed.answer;
     let a = put_totals(page, listed.at, state.totals);
     let end = put_answer(page, a, answer);
-    streams::told(io::write_all(STDOUT_FILENO, part(page, 0, end)))
+    streams::outcome(rt, rt.write_all(part(page, 0, end)))
 }
 
-fn list_file(fd: i32, name: &[u8], several: bool, page: &mut [u8]) -> u8 {
+fn list_file(rt: &HostRuntime, reader: &Reader, name: &[u8], several: bool, page: &mut [u8]) -> u8 {
     let at = put_input(page, name, several);
-    let read = list_lines(unlisted(at), fd, name, page);
-    let listed = make_room(read, page);
+    let read = list_lines(rt, unlisted(at), reader, name, page);
+    let listed = make_room(rt, read, page);
     if listed.done {
-        return streams::status_of(listed.answer.number, is_answered(listed, page));
+        return streams::status_after(listed.answer.number, true, put_rest(rt, listed, page));
     }
-    streams::status_of(listed.answer.number, false)
+    streams::status_after(listed.answer.number, false, listed.printed)
 }
 
 // The file of argument i, or standard input.
-fn list_input(i: usize, several: bool, page: &mut [u8]) -> u8 {
-    let mut name = io::buffer();
-    let input = streams::open(i, &mut name);
-    let n = input.characters;
-    if input.fd < 0 {
-        return streams::status_of(0, false);
+fn list_input(rt: &HostRuntime, i: usize, several: bool, page: &mut [u8]) -> u8 {
+    let mut name = [0u8; 4096];
+    let input = streams::open(rt, i, &mut name);
+    if input.reader.is_open() {
+        return list_file(rt, &input.reader, &name[..input.characters], several, page);
     }
-    let status = list_file(input.fd, &name[..n], several, page);
-    libc::close(input.fd);
-    status
+    streams::status_of(0, false)
 }
 
-fn main() {
+fn main(rt: HostRuntime) -> ExitCode {
     let mut page = [0u8; 8192];
-    let arguments = os::arg_count();
-    let several = 2 < arguments;
-    let mut status = list_input(1, several, &mut page);
-    let mut i = 2;
-    while i < arguments {
-        status = streams::worse(status, list_input(i, several, &mut page));
-        i += 1;
+    let several = streams::is_given(rt.arg(2, &mut []));
+    let mut status = list_input(&rt, 1, several, &mut page);
+    for i in 2..usize::MAX {
+        if (status == streams::UNREAD) | !streams::is_given(rt.arg(i, &mut [])) {
+            break;
+        }
+        status = streams::worse(status, list_input(&rt, i, several, &mut page));
     }
-    streams::end_with(status);
+    streams::end(status)
 }

@@ -6,11 +6,12 @@
 use checking::Checked;
 use field::bytes::part;
 use format::Answer;
-use libc::{STDERR_FILENO, STDOUT_FILENO};
 use page::{put_answer, put_input, put_text};
 use reading::State;
 use record::Record;
-use streams::{Lines, Source};
+use std::process::ExitCode;
+use std::rt::Env;
+use streams::{Lines, Printed, Reader, Source};
 use telling::put_name;
 use writer::Entry;
 
@@ -18,8 +19,8 @@ use writer::Entry;
 const NO_MORE: u8 = 3;
 
 // A file so far: the answer to the last line, the reader's state after it and the writer's, how much of the page is
-// filled, whether it was the last line, and whether all was read and all was written.
-#[derive(Drop)]
+// filled, whether it was the last line, whether all was read, and what became of what was written.
+#[derive(Clone, Copy)]
 struct Copied {
     answer: Answer,
     reader: State,
@@ -27,11 +28,11 @@ struct Copied {
     at: usize,
     ended: bool,
     read: bool,
-    written: bool,
+    printed: Printed,
 }
 
 // The record to write of a record that was read: none of a city.
-#[derive(Drop)]
+#[derive(Clone, Copy)]
 enum Again {
     Of(Entry),
     Nothing,
@@ -129,38 +130,47 @@ fn copy_line(before: Copied, rest: &[u8], page: &mut [u8]) -> Copied {
 }
 
 // Writes what is gathered, where the next line might not fit or there is none.
-fn make_room(before: Copied, page: &[u8]) -> Copied {
+fn make_room(rt: &HostRuntime, before: Copied, page: &[u8]) -> Copied {
     let mut copied = before;
     if copied.ended | (page.len() <= copied.at) {
-        copied.written = streams::told(io::write_all(STDOUT_FILENO, part(page, 0, copied.at)));
-        copied.ended = copied.ended | !copied.written;
+        copied.printed = streams::outcome(rt, rt.write_all(part(page, 0, copied.at)));
+        copied.ended = copied.ended | !copied.printed.is_whole();
         copied.at = 0;
     }
     copied
 }
 
 // The next line, or the end where there is none; whether all was read until there.
-fn copy_next(before: Copied, rest: &[u8], failed: bool, page: &mut [u8]) -> Copied {
+fn copy_next(
+    rt: &HostRuntime,
+    before: Copied,
+    rest: &[u8],
+    failed: bool,
+    page: &mut [u8],
+) -> Copied {
     let mut copied = copy_line(before, rest, page);
     copied.ended = (copied.answer.number != 0) | (rest.len() == 0);
     copied.read = !failed;
-    make_room(copied, page)
+    make_room(rt, copied, page)
 }
 
-// The lines of a file that was accepted. (A proved loop has to end, so this one counts its turns down from a number
-// that no run uses up.)
-fn copy_lines(start: Lines, fd: i32, name: &[u8], page: &mut [u8]) -> Copied {
+// The lines of a file that was accepted.
+fn copy_lines(
+    rt: &HostRuntime,
+    start: Lines,
+    reader: &Reader,
+    name: &[u8],
+    page: &mut [u8],
+) -> Copied {
     let mut buffer = [0u8; streams::BUFFER];
     let mut lines = start;
     let mut copied = unwritten();
-    let mut turns = u64::MAX;
-    while 0 < turns {
-        lines = lines.next(fd, name, &mut buffer);
-        copied = copy_next(copied, lines.line(&buffer), lines.failed, page);
+    for _ in 0..u64::MAX {
+        lines = lines.next(rt, reader, name, &mut buffer);
+        copied = copy_next(rt, copied, lines.line(&buffer), lines.failed, page);
         if copied.ended {
             return copied;
         }
-        turns -= 1;
     }
     copied
 }
@@ -176,97 +186,96 @@ fn unwritten() -> Copied {
         at: 0,
         ended: false,
         read: true,
-        written: true,
+        printed: Printed::Whole,
     }
 }
 
 // Tells why a file was refused, and whether that could be told.
-fn is_told(checked: Checked, name: &[u8], several: bool) -> bool {
+fn is_told(rt: &HostRuntime, checked: Checked, name: &[u8], several: bool) -> bool {
     let mut page = [0u8; 8192];
     let a = put_input(&mut page, name, several);
     let answer = checked.answer;
     let b = put_answer(&mut page, a, answer);
-    io::write_all(STDERR_FILENO, part(&page, 0, b))
+    rt.stderr().write_all(part(&page, 0, b)).is_ok()
 }
 
 // A file that was accepted is another one now.
-fn tell_changed(name: &[u8]) {
+fn tell_changed(rt: &HostRuntime, name: &[u8]) {
     let mut page = [0u8; 8192];
     let a = put_name(&mut page, 0, name);
     let b = put_text(&mut page, a, b": it changed while it was read\n");
-    io::write_all(STDERR_FILENO, part(&page, 0, b));
+    let _ = rt.stderr().write_all(part(&page, 0, b));
 }
 
 // The second reading of an accepted file.
-fn copy_again(source: Source, name: &[u8], page: &mut [u8]) -> u8 {
-    let lines = streams::again(source, name);
-    let copied = copy_lines(lines, source.fd, name, page);
-    if !copied.written {
-        return NO_MORE;
+fn copy_again(rt: &HostRuntime, source: &Source, name: &[u8], page: &mut [u8]) -> u8 {
+    let lines = streams::again(rt, source, name);
+    let copied = copy_lines(rt, lines, &source.reader, name, page);
+    if !copied.printed.is_whole() {
+        return streams::worse(NO_MORE, streams::status_after(0, true, copied.printed));
     }
     if copied.read {
         if copied.answer.number != 0 {
-            tell_changed(name);
+            tell_changed(rt, name);
         }
     }
     streams::status_of(0, copied.read & (copied.answer.number == 0))
 }
 
 // A file that can be read twice.
-fn copy_source(source: Source, name: &[u8], several: bool, page: &mut [u8]) -> u8 {
-    let checked = checking::check(source.fd, name, page);
+fn copy_source(
+    rt: &HostRuntime,
+    source: &Source,
+    name: &[u8],
+    several: bool,
+    page: &mut [u8],
+) -> u8 {
+    let checked = checking::check(rt, &source.reader, name, page);
     let lines = checked.lines;
     if lines.failed {
         return streams::status_of(checked.answer.number, false);
     }
     if checked.answer.number != 0 {
-        return streams::status_of(checked.answer.number, is_told(checked, name, several));
+        return streams::status_of(checked.answer.number, is_told(rt, checked, name, several));
     }
-    copy_again(source, name, page)
+    copy_again(rt, source, name, page)
 }
 
-fn copy_file(fd: i32, name: &[u8], several: bool, page: &mut [u8]) -> u8 {
-    let source = streams::rereadable(fd, name);
-    if source.fd < 0 {
-        return streams::status_of(0, false);
+fn copy_file(rt: &HostRuntime, reader: Reader, name: &[u8], several: bool, page: &mut [u8]) -> u8 {
+    let source = streams::rereadable(rt, streams::seekable(rt, reader), name);
+    if source.reader.is_open() {
+        return copy_source(rt, &source, name, several, page);
     }
-    let status = copy_source(source, name, several, page);
-    if source.temporary {
-        libc::close(source.fd);
-    }
-    status
+    streams::status_of(0, false)
 }
 
 // The file of argument i, or standard input.
-fn copy_input(i: usize, several: bool, page: &mut [u8]) -> u8 {
-    let mut name = io::buffer();
-    let input = streams::open(i, &mut name);
-    let n = input.characters;
-    if input.fd < 0 {
-        return streams::status_of(0, false);
+fn copy_input(rt: &HostRuntime, i: usize, several: bool, page: &mut [u8]) -> u8 {
+    let mut name = [0u8; 4096];
+    let input = streams::open(rt, i, &mut name);
+    if input.reader.is_open() {
+        return copy_file(rt, input.reader, &name[..input.characters], several, page);
     }
-    let status = copy_file(input.fd, &name[..n], several, page);
-    libc::close(input.fd);
-    status
+    streams::status_of(0, false)
 }
 
 // The next file, where output can still be written.
-fn copy_next_input(i: usize, before: u8, several: bool, page: &mut [u8]) -> u8 {
+fn copy_next_input(rt: &HostRuntime, i: usize, before: u8, several: bool, page: &mut [u8]) -> u8 {
     if before == NO_MORE {
         return before;
     }
-    streams::worse(before, copy_input(i, several, page))
+    streams::worse(before, copy_input(rt, i, several, page))
 }
 
-fn main() {
+fn main(rt: HostRuntime) -> ExitCode {
     let mut page = [0u8; streams::BUFFER];
-    let arguments = os::arg_count();
-    let several = 2 < arguments;
-    let mut status = copy_input(1, several, &mut page);
-    let mut i = 2;
-    while i < arguments {
-        status = copy_next_input(i, status, several, &mut page);
-        i += 1;
+    let several = streams::is_given(rt.arg(2, &mut []));
+    let mut status = copy_input(&rt, 1, several, &mut page);
+    for i in 2..usize::MAX {
+        if (status == streams::UNREAD) | !streams::is_given(rt.arg(i, &mut [])) {
+            break;
+        }
+        status = copy_next_input(&rt, i, status, several, &mut page);
     }
-    streams::end_with(status);
+    streams::end(status)
 }

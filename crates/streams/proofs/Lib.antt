@@ -1,3 +1,3 @@
-pub mod Filling
 pub mod Taking
 pub mod Carrying
+pub mod Telling

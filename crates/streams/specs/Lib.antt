@@ -1,2 +1,4 @@
 pub mod Taking
 pub mod Status
+pub mod Opened
+pub mod Counts

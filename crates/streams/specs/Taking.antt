@@ -1,8 +1,9 @@
 -- What was taken of a buffer, and what is left of it.
-use Rattle.std.specs.Prelude.{ℕ, ◌+◌, ◌≡◌, List, ◌++◌, Bool, true, false, ◌||◌, length, take, drop, leb, ltb, ℤ, pos}
+use Rattle.std.specs.Prelude.{ℕ, ◌+◌, ◌≡◌, List, ◌++◌, Bool, true, false, ◌||◌, length, take, drop, leb, ltb}
 use Rattle.machine.specs.Lists.{pick}
 use Rattle.format.specs.Cutting.{cut_of, next_line}
 use Rattle.streams.specs.declared.lines.Lines.{Lines}
+use Rattle.streams.specs.declared.reader.Reader.{Reader}
 use Rattle.streams.specs.declared.twice.Source.{Source}
 
 abbrev pub unread_if : Bool → Lines
@@ -43,8 +44,8 @@ pub record Pulled (l : Lines) (b : List ℕ) (r : Lines) (b' : List ℕ) : Type 
   pub carried : take (length (left_in l b)) (left_in r b') ≡ left_in l b
 
 -- a temporary file, read from its start; an input, read from an offset on
-abbrev pub from_start : ℤ → Source
-from_start fd = record { fd = fd; start = pos 0; temporary = true }
+abbrev pub from_start : Reader → Source
+from_start reader = record { reader = reader; start = 0; temporary = true }
 
-abbrev pub from_offset : ℤ → ℤ → Source
-from_offset fd start = record { fd = fd; start = start; temporary = false }
+abbrev pub from_offset : Reader → ℕ → Source
+from_offset reader start = record { reader = reader; start = start; temporary = false }

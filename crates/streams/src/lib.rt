@@ -1,29 +1,44 @@
 // What the programs read and write: the files that their arguments name, standard input and standard output. What
-// cannot be opened, read or written is told on standard error, in one line. No contract can say which bytes C reads or
-// writes.
+// cannot be opened, read or written is told on standard error, in one line. No contract can say which bytes the system
+// gives or takes.
 #![tactic(auto)]
 
 ghost use Rattle.std.specs.Prelude.{◌≡◌, ◌+◌, ◌≤◌, length};
-ghost use Rattle.io.specs.Counts.{IsPrefixLen};
+ghost use Rattle.streams.specs.Counts.{IsPrefixLen};
+ghost use Rattle.streams.specs.Opened.{is_given, is_long};
 
-use libc::STDIN_FILENO;
+use failures::{fail, tell};
+use reader::open_named;
+use std::env::FillError;
+use std::io::Error;
+use std::rt::Env;
 
+mod anew;
+mod failures;
 mod lines;
+mod output;
+mod reader;
 mod status;
 mod twice;
 
+pub use anew::seekable;
 pub use lines::Lines;
-pub use status::{end_with, status_of, worse};
+pub use output::{Printed, outcome, told};
+pub use reader::Reader;
+pub use status::{UNREAD, end, end_with, status_after, status_of, worse};
 pub use twice::{Source, again, rereadable};
 
 // The length of a buffer that lines are read into, or written from: 24 times 51 times 52, a whole number of lines with
 // either end. One that is written from has 52 bytes a line, so it is full at a line's end.
 pub const BUFFER: usize = 63648;
 
-// An input: its descriptor, which is negative where it cannot be opened, and how many characters its name has.
+// The system's number of 'File name too long'.
+const ENAMETOOLONG: i32 = 36;
+
+// An input: what it is read from, and how many characters its name has.
 #[derive(Drop)]
 pub struct Input {
-    pub fd: i32,
+    pub reader: Reader,
     pub characters: usize,
 }
 
@@ -34,67 +49,80 @@ struct Filled {
     failed: bool,
 }
 
-fn open_named(name: &[u8]) -> i32 {
-    let fd = os::open_read(name);
-    if fd < 0 {
-        os::fail(name);
-    }
-    fd
-}
-
 // Opens the file that argument i names, and puts the name at the start of the buffer. Without argument i it is
 // standard input, whose name is empty.
-pub fn open(i: usize, name: &mut [u8]) -> Input
+pub fn open(rt: &HostRuntime, i: usize, name: &mut [u8]) -> Input
     ensures { IsPrefixLen result.characters name.new }
 {
-    let n = os::arg(i, name);
-    let error = os::errno();
-    if error == libc::EINVAL {
-        return Input {
-            fd: STDIN_FILENO,
-            characters: n,
-        };
+    match rt.arg(i, name) {
+        Ok(n) => {
+            let reader = open_named(rt, &name[..n]);
+            Input {
+                reader,
+                characters: n,
+            }
+        }
+        Err(FillError::NotPresent) => Input {
+            reader: Reader::StandardInput(rt.stdin()),
+            characters: 0,
+        },
+        Err(FillError::TooLong) => {
+            fail(rt, b"file name", &Error::from_raw_os_error(ENAMETOOLONG));
+            Input {
+                reader: Reader::Closed,
+                characters: 0,
+            }
+        }
     }
-    if error != 0 {
-        os::fail(b"file name");
-        return Input {
-            fd: -1,
-            characters: n,
-        };
-    }
-    let fd = open_named(&name[..n]);
-    Input { fd, characters: n }
 }
 
-fn tell(name: &[u8]) {
-    if name.len() == 0 {
-        os::fail(b"standard input");
-    } else {
-        os::fail(name);
+// Whether an argument that was not read is there.
+fn is_long(error: FillError) -> bool
+    ensures { result ≡ is_long error }
+{
+    match error {
+        FillError::NotPresent => false,
+        FillError::TooLong => true,
+    }
+}
+
+// Whether there is an argument, by what an attempt to read it came to.
+pub fn is_given(read: Result<usize, FillError>) -> bool
+    ensures { result ≡ is_given read }
+{
+    match read {
+        Ok(_) => true,
+        Err(e) => is_long(e),
     }
 }
 
 // One read into a buffer, from an offset on.
-fn read_some(fd: i32, name: &[u8], buffer: &mut [u8], at: usize) -> Filled
+fn read_some(rt: &HostRuntime, reader: &Reader, name: &[u8], buffer: &mut [u8], at: usize) -> Filled
     requires { at ≤ length buffer.old }
     ensures { at + result.count ≤ length buffer.new }
 {
-    let got = libc::read(fd, &mut buffer[at..]);
-    let count = io::count(got, &buffer[at..]);
-    let failed = got < 0;
-    if failed {
-        tell(name);
+    match reader.read(&mut buffer[at..]) {
+        Ok(count) => Filled {
+            count,
+            failed: false,
+        },
+        Err(e) => {
+            tell(rt, name, &e);
+            Filled {
+                count: 0,
+                failed: true,
+            }
+        }
     }
-    Filled { count, failed }
 }
 
 // Reads until the buffer is full, the input of that name ends, or a read fails.
-pub(crate) fn fill(fd: i32, name: &[u8], buffer: &mut [u8]) -> Filled
+pub(crate) fn fill(rt: &HostRuntime, reader: &Reader, name: &[u8], buffer: &mut [u8]) -> Filled
     ensures { IsPrefixLen result.count buffer.new }
 {
     let mut done: usize = 0;
     while done < buffer.len() {
-        let more = read_some(fd, name, buffer, done);
+        let more = read_some(rt, reader, name, buffer, done);
         if more.count == 0 {
             return Filled {
                 count: done,
@@ -107,14 +135,4 @@ pub(crate) fn fill(fd: i32, name: &[u8], buffer: &mut [u8]) -> Filled
         count: done,
         failed: false,
     }
-}
-
-// Whether standard output was written, told on standard error where it was not.
-pub fn told(written: bool) -> bool
-    ensures { result ≡ written }
-{
-    if !written {
-        os::fail(b"standard output");
-    }
-    written
 }

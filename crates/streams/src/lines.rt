@@ -4,11 +4,11 @@ ghost use Rattle.std.specs.Prelude.{◌≡◌, length};
 ghost use Rattle.format.specs.Cutting.{next_line};
 ghost use Rattle.streams.specs.Taking.{unread, left_in, passed_one, is_ready, carried_in, Pulled};
 
-use crate::fill;
+use crate::{Reader, fill};
 use field::bytes::{next_line, part};
 
 // How much of the buffer is taken and how far it is filled, whether the input is over, and whether a read failed.
-#[derive(Drop)]
+#[derive(Clone, Copy)]
 pub struct Lines {
     pub at: usize,
     pub end: usize,
@@ -53,24 +53,22 @@ impl Lines {
         ensures bytes { buffer.new ≡ carried_in self buffer.old }
     {
         let count = self.left(buffer).len();
-        let mut i: usize = 0;
-        while i < count {
+        for i in 0..count {
             buffer[i] = buffer[self.at + i];
-            i += 1;
         }
         count
     }
 
     // Reads on where the line that stands next is not all in the buffer and the input of that name is not over: what
     // is left comes first, and the buffer is filled behind it.
-    fn pulled(self, fd: i32, name: &[u8], buffer: &mut [u8]) -> Lines
+    fn pulled(self, rt: &HostRuntime, reader: &Reader, name: &[u8], buffer: &mut [u8]) -> Lines
         ensures { Pulled self buffer.old result buffer.new }
     {
         if self.is_ready(buffer) {
             return self;
         }
         let n = self.carry(buffer);
-        let filled = fill(fd, name, &mut buffer[n..]);
+        let filled = fill(rt, reader, name, &mut buffer[n..]);
         let end = n + filled.count;
         Lines {
             at: 0,
@@ -89,12 +87,12 @@ impl Lines {
 
     // After that line, so that the one after it stands next: before the first line, which is not read yet, that is the
     // first.
-    pub fn next(self, fd: i32, name: &[u8], buffer: &mut [u8]) -> Lines
+    pub fn next(self, rt: &HostRuntime, reader: &Reader, name: &[u8], buffer: &mut [u8]) -> Lines
         ensures { Pulled (passed_one self buffer.old) buffer.old result buffer.new }
     {
         let line = self.line(buffer);
         let mut lines = self;
         lines.at = self.at + line.len();
-        lines.pulled(fd, name, buffer)
+        lines.pulled(rt, reader, name, buffer)
     }
 }

@@ -1,11 +1,16 @@
-// How a program ends. Rattle programs have no exit status: a program writes it as one digit to descriptor 3, where
-// there is one, and `clieop` ends with it.
-ghost use Rattle.std.specs.Prelude.{◌≡◌, max};
-ghost use Rattle.streams.specs.Status.{status_of, status_digit};
+// How a program ends: `main` returns the status, and `clieop` ends with it.
+ghost use Rattle.std.specs.Prelude.{◌≡◌, ◌+◌, max};
+ghost use Rattle.std.specs.Process.{exit_status};
+ghost use Rattle.streams.specs.Status.{status_of, status_after, status_digit, exit_of};
 
-const STATUS_FILENO: i32 = 3;
+use crate::Printed;
+use std::process::ExitCode;
+
+// Of a file whose output nobody reads any more: what a program ends with that the signal of a closed pipe kills.
+pub const UNREAD: u8 = 141;
 
 // Of one file: the number of its answer, and whether all was read and written.
+#[tactic(auto, unfolding(crate::specs::Status::status_of, machine::specs::Lists::pick))]
 pub fn status_of(number: u8, done: bool) -> u8
     ensures { result ≡ status_of number done }
 {
@@ -18,6 +23,18 @@ pub fn status_of(number: u8, done: bool) -> u8
     2
 }
 
+// The same with what became of what was printed of it.
+#[tactic(auto, unfolding(crate::specs::Status::status_after))]
+pub fn status_after(number: u8, done: bool, printed: Printed) -> u8
+    ensures { result ≡ status_after number done printed }
+{
+    match printed {
+        Printed::Whole => status_of(number, done),
+        Printed::Failed => status_of(number, false),
+        Printed::Unread => UNREAD,
+    }
+}
+
 // Of two files.
 pub fn worse(a: u8, b: u8) -> u8
     ensures { result ≡ max a b }
@@ -28,20 +45,32 @@ pub fn worse(a: u8, b: u8) -> u8
     a
 }
 
+// The status that the digit names.
+#[tactic(auto, unfolding(crate::specs::Status::status_digit))]
 fn digit_of(status: u8) -> u8
-    ensures { result ≡ status_digit status }
+    ensures { 48 + result ≡ status_digit status }
 {
     if status < 2 {
-        return 48 + status;
+        return status;
     }
-    50
+    2
 }
 
-// Writes the status, and answers the digit that it is.
-pub fn end_with(status: u8) -> u8
-    ensures { result ≡ status_digit status }
+// What `main` returns: the status, as its digit names it.
+pub fn end_with(status: u8) -> ExitCode
+    ensures { 48 + exit_status result ≡ status_digit status }
 {
     let digit = digit_of(status);
-    io::write_all(STATUS_FILENO, &[digit]);
-    digit
+    ExitCode::from(digit)
+}
+
+// The same, but 141 where nobody reads the output any more.
+#[tactic(auto, unfolding(crate::specs::Status::exit_of, crate::specs::Status::status_digit, machine::specs::Lists::pick))]
+pub fn end(status: u8) -> ExitCode
+    ensures { exit_status result ≡ exit_of status }
+{
+    if status == UNREAD {
+        return ExitCode::from(UNREAD);
+    }
+    end_with(status)
 }

@@ -1,0 +1,22 @@
+-- What an input is read from, and whether there is an argument that names it.
+use Rattle.std.specs.Prelude.{ℕ, Bool, true, false, Result, Ok, Err}
+use Rattle.std.specs.declared.env.FillError.{FillError}
+use Rattle.std.specs.declared.env.FillError.TheVariants.{NotPresent, TooLong}
+use Rattle.streams.specs.declared.reader.Reader.{Reader}
+use Rattle.streams.specs.declared.reader.Reader.TheVariants.{Closed, StandardInput, OpenFile}
+
+-- there is something
+abbrev pub is_open : Reader → Bool
+is_open Closed = false
+is_open (StandardInput _) = true
+is_open (OpenFile _) = true
+
+-- an argument is longer than what it was to be read into
+abbrev pub is_long : FillError → Bool
+is_long NotPresent = false
+is_long TooLong = true
+
+-- there is an argument, by what an attempt to read it came to
+abbrev pub is_given : Result ℕ FillError → Bool
+is_given (Ok _) = true
+is_given (Err e) = is_long e

@@ -1,0 +1,62 @@
+// Standard output, and what became of what was printed there.
+ghost use Rattle.std.specs.Prelude.{◌≡◌, is_ok, true, false};
+ghost use Rattle.streams.specs.Status.{is_whole};
+
+use crate::failures::fail;
+use std::io;
+use std::io::ErrorKind;
+
+// All of it was written, or not, or nobody reads it any more.
+#[derive(Clone, Copy)]
+pub enum Printed {
+    Whole,
+    Failed,
+    Unread,
+}
+
+impl Printed {
+    pub fn is_whole(self) -> bool
+        ensures { result ≡ is_whole self }
+    {
+        match self {
+            Printed::Whole => true,
+            Printed::Failed => false,
+            Printed::Unread => false,
+        }
+    }
+}
+
+// Whether standard output was written, told on standard error where it was not.
+pub fn told(rt: &HostRuntime, written: io::Result<()>) -> bool
+    ensures { result ≡ is_ok written }
+{
+    match written {
+        Ok(()) => true,
+        Err(e) => {
+            fail(rt, b"standard output", &e);
+            false
+        }
+    }
+}
+
+fn is_unread(written: &io::Result<()>) -> bool
+    ensures { result ≡ true → is_ok written.now ≡ false }
+{
+    match written {
+        Ok(()) => false,
+        Err(e) => e.kind() == ErrorKind::BrokenPipe,
+    }
+}
+
+// What became of it; that nobody reads it any more is not told.
+pub fn outcome(rt: &HostRuntime, written: io::Result<()>) -> Printed
+    ensures { is_whole result ≡ is_ok written }
+{
+    if is_unread(&written) {
+        return Printed::Unread;
+    }
+    if told(rt, written) {
+        return Printed::Whole;
+    }
+    Printed::Failed
+}
