@@ -1,12 +1,11 @@
 -- What is left of a buffer, carried to its front. Assumes nothing.
 use Prim.Native.Nat.{ℕ, ◌+◌, ◌-◌, ◌≤◌, ◌<◌, min}
-use mathlib.Core.Path.{◌≡◌, refl, sym, ap, ◌∙◌}
+use mathlib.Core.Path.{◌≡◌, sym, ap, ◌∙◌}
 use mathlib.Core.List.{List, ◌++◌}
 use native.Mathlib.Omega.{arith}
 use native.Mathlib.Numerals.{add-one}
-use borrow.Author.Rules.{rules}
-use lib.ListN.{length, get_or, set, take, drop, length-take, length-drop, length-set, length-append}
-use lib.Seq.{paste, paste-zero, paste-suc, drop-paste, take-length, take-take, take-append_seam, get_or-take, get_or-drop}
+use lib.ListN.{length, get_or, set, take, drop, length-take, length-drop, length-set}
+use lib.Seq.{paste, paste-suc, drop-paste, take-take, take-append_seam, get_or-take, get_or-drop}
 use Rattle.streams.specs.Taking.{left_in, carried_in}
 use Rattle.streams.specs.declared.lines.Lines.{Lines}
 
@@ -22,9 +21,6 @@ pub record Carrying (l : Lines) (b : List ℕ) (n : ℕ) (now : List ℕ) (i : �
   pub fits : n ≤ length b - l.at
   pub kept : length now ≡ length b
   pub is : now ≡ paste b 0 (left_in l b) i
-
-pub carry_none : {x : List ℕ} (l : Lines) (b : List ℕ) → x ≡ left_in l b → Carrying l b (length x) b 0
-carry_none l b e = record { all = ap length e; within = omega arith; fits = omega (arith, ap length e, left_length l b); kept = refl; is = paste-zero b 0 (left_in l b) }
 
 module _ {l : Lines} {b : List ℕ} {n : ℕ} {now : List ℕ} {i : ℕ} (p : Carrying l b n now i) where
   -- a byte that is not moved yet stands where it stood
@@ -59,35 +55,9 @@ module _ {l : Lines} {b : List ℕ} {n : ℕ} {now : List ℕ} {i : ℕ} (p : Ca
             ∙ rw add-one (paste-suc b 0 (left_in l b) i 0 r s);
       }
 
-  pub carry_from : i < n → l.at + i < length now
-  carry_from k = omega (arith, p.fits, p.kept)
-
-  pub carry_to : i < n → i < length now
-  carry_to k = omega (arith, p.fits, p.kept)
-
-  pub carry_all : n ≤ i → now ≡ carried_in l b
-  carry_all k =
-      let e : i ≡ length (left_in l b) = omega (arith, p.within, p.all) in
-      let z : 0 + length (left_in l b) ≡ length (left_in l b) = omega arith in
-      p.is
-      ∙ ap (paste b 0 (left_in l b)) e
-      ∙ ap (λ x. x ++ drop (0 + length (left_in l b)) b) (take-length (left_in l b))
-      ∙ ap (λ m. left_in l b ++ drop m b) z
-
-  pub carry_kept : length now ≡ length b
-  carry_kept = p.kept
-
-  pub carry_count : n ≡ length (left_in l b)
-  carry_count = p.all
-
-pub ruleset carries = (carry_none, carry_more, carry_from, carry_to, carry_all, carry_kept, carry_count, rules)
-
 -- ## At the front
 
 module _ {n : ℕ} {now : List ℕ} (l : Lines) (b : List ℕ) (k : n ≡ length (left_in l b)) (e : now ≡ carried_in l b) where
-  pub carried_fits : n ≤ length now
-  carried_fits = omega (arith, ap length e, length-append (left_in l b) (drop (length (left_in l b)) b))
-
   -- whatever is read behind it
   pub carried_first : (c : ℕ) (read : List ℕ) → take (length (left_in l b)) (take (n + c) (take n now ++ read)) ≡ left_in l b
   carried_first c read =

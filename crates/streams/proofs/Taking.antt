@@ -1,27 +1,22 @@
--- What is taken of a buffer, and how a program ends. Assumes nothing.
-use Prim.Native.Nat.{ℕ, zero, suc, ◌+◌, ◌-◌, ◌≤◌, ◌<◌, min, max}
+-- What is taken of a buffer. Assumes nothing.
+use Prim.Native.Nat.{ℕ, zero, suc, ◌+◌, ◌-◌, ◌≤◌, ◌<◌, min}
 use mathlib.Core.Path.{◌≡◌, refl, sym, ap, subst, ◌∙◌}
 use mathlib.Core.List.{List, ◌++◌}
 use mathlib.Core.Bool.{Bool, true, false, ◌||◌}
 use native.Mathlib.Omega.{arith}
 use borrow.Author.Tests.{leb-true, lt-ltb}
-use lib.ListN.{length, take, drop, length-take, length-drop}
+use lib.ListN.{length, take}
 use lib.Dec.{leb, ltb, eqb}
-use lib.Seq.{take_all, take-length}
+use lib.Seq.{take-length}
 use Rattle.format.specs.Cutting.{cut_of, next_line}
 use Rattle.format.specs.declared.Cut.{Cut}
 use Rattle.format.proofs.Cutting.{cut_bytes}
 use Rattle.field.proofs.Picks.{pick_yes, pick_no}
 use Rattle.streams.specs.Taking.{left_in, passed_one, is_ready, carried_in, Pulled}
-use Rattle.streams.specs.Status.{status_digit}
 use Rattle.streams.specs.declared.lines.Lines.{Lines}
 use Rattle.streams.proofs.Carrying.{left_length, carried_first}
 
 -- ## What is left
-
-module _ {f r : List ℕ} (l : Lines) (buffer : List ℕ) where
-  pub left_taken : f ≡ take l.end (drop 0 buffer) → r ≡ take (length f) (drop l.at f) → r ≡ left_in l buffer
-  left_taken e p = p ∙ take_all (length f) (drop l.at f) (omega (arith, length-drop l.at f)) ∙ ap (drop l.at) e
 
 pub ready_by : {x : List ℕ} {c : Cut} (l : Lines) (buffer : List ℕ) → x ≡ left_in l buffer → c ≡ cut_of x → (l.over || leb c.bytes (length x)) ≡ is_ready l buffer
 ready_by {x} l buffer e p = ap (λ (y : Cut). l.over || leb y.bytes (length x)) p ∙ ap (λ y. l.over || leb (cut_of y).bytes (length y)) e
@@ -59,31 +54,8 @@ module _ {t : Bool} (l : Lines) (b : List ℕ) (e : t ≡ is_ready l b) where
 
 -- ## The next line
 
-module _ {f r : List ℕ} (l : Lines) (buffer : List ℕ) where
-  pub line_taken : f ≡ take l.end (drop 0 buffer) → r ≡ next_line (drop l.at f) → r ≡ next_line (left_in l buffer)
-  line_taken e p = p ∙ ap (λ x. next_line (drop l.at x)) e
-
-pub ruleset taking = line_taken
-
--- after it
-module _ (l : Lines) (buffer r : List ℕ) (e : r ≡ next_line (left_in l buffer)) where
-  pub next_inside : l.at + length r ≤ max l.at (length buffer)
-  next_inside = omega (arith, ap length e, length-take (cut_of (left_in l buffer)).bytes (left_in l buffer), length-drop l.at (take l.end buffer), length-take l.end buffer)
-
 abbrev moved_to : Lines → ℕ → Lines
 moved_to l at = record { at = at; end = l.end; over = l.over; failed = l.failed }
 
 pub next_pulled : {r : List ℕ} {n : Lines} {b : List ℕ} (l : Lines) (buffer : List ℕ) → r ≡ next_line (left_in l buffer) → Pulled (moved_to l (l.at + length r)) buffer n b → Pulled (passed_one l buffer) buffer n b
 next_pulled {n = n} {b} l buffer e h = subst (λ x. Pulled (moved_to l (l.at + length x)) buffer n b) e h
-
--- ## Status
-
-pub digit_of : (status : ℕ) → status < 2 → 48 + status ≡ status_digit status
-unfolding status_digit
-digit_of status h = omega arith
-
-pub digit_most : (status : ℕ) → 2 ≤ status → 50 ≡ status_digit status
-unfolding status_digit
-digit_most status h = omega arith
-
-pub ruleset statuses = (digit_of, digit_most)
