@@ -9,7 +9,8 @@ use std::io::{Error, Read, Seek, SeekFrom, Stdin};
 use std::os::fd::AsFd;
 use std::{fs, io, str};
 
-// The system's numbers of 'Bad file descriptor', 'Illegal seek' and 'Invalid or incomplete multibyte or wide character'.
+// The system's numbers of 'Bad file descriptor', 'Illegal seek' and 'Invalid or incomplete multibyte or wide
+// character'.
 const EBADF: i32 = 9;
 
 const ESPIPE: i32 = 29;
