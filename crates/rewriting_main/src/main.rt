@@ -222,15 +222,16 @@ fn copy_again(rt: &HostRuntime, source: &Source, name: &[u8], page: &mut [u8]) -
     streams::status_of(0, copied.read & (copied.answer.number == 0))
 }
 
-// A file that can be read twice.
+// A file that can be read twice, and what it is read from the first time.
 fn copy_source(
     rt: &HostRuntime,
+    reader: &Reader,
     source: &Source,
     name: &[u8],
     several: bool,
     page: &mut [u8],
 ) -> u8 {
-    let checked = checking::check(rt, &source.reader, name, page);
+    let checked = checking::check(rt, reader, name, page);
     let lines = checked.lines;
     if lines.failed {
         return streams::status_of(checked.answer.number, false);
@@ -242,9 +243,14 @@ fn copy_source(
 }
 
 fn copy_file(rt: &HostRuntime, reader: Reader, name: &[u8], several: bool, page: &mut [u8]) -> u8 {
-    let source = streams::rereadable(rt, streams::seekable(rt, reader), name);
+    let anew = streams::anew(rt, &reader);
+    if anew.is_open() {
+        let source = streams::rereadable(rt, anew, name);
+        return copy_source(rt, &reader, &source, name, several, page);
+    }
+    let source = streams::rereadable(rt, reader, name);
     if source.reader.is_open() {
-        return copy_source(rt, &source, name, several, page);
+        return copy_source(rt, &source.reader, &source, name, several, page);
     }
     streams::status_of(0, false)
 }

@@ -11,6 +11,12 @@ is_open Closed = false
 is_open (StandardInput _) = true
 is_open (OpenFile _) = true
 
+-- it is standard input itself
+abbrev pub is_standard : Reader → Bool
+is_standard Closed = false
+is_standard (StandardInput _) = true
+is_standard (OpenFile _) = false
+
 -- an argument is longer than what it was to be read into
 abbrev pub is_long : FillError → Bool
 is_long NotPresent = false

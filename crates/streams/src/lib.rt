@@ -13,18 +13,18 @@ use std::env::FillError;
 use std::io::Error;
 use std::rt::Env;
 
-mod anew;
 mod failures;
 mod lines;
 mod output;
 mod reader;
+mod reopening;
 mod status;
 mod twice;
 
-pub use anew::seekable;
 pub use lines::Lines;
 pub use output::{Printed, outcome, told};
 pub use reader::Reader;
+pub use reopening::anew;
 pub use status::{UNREAD, end, end_with, status_after, status_of, worse};
 pub use twice::{Source, again, rereadable};
 

@@ -1,6 +1,6 @@
 // Standard input opened once more, as a file of its own that can go back: the descriptor itself only goes on here.
-ghost use Rattle.std.specs.Prelude.{◌≡◌};
-ghost use Rattle.streams.specs.Opened.{is_open};
+ghost use Rattle.std.specs.Prelude.{◌≡◌, true};
+ghost use Rattle.streams.specs.Opened.{is_open, is_standard};
 
 use crate::Reader;
 use std::fs::File;
@@ -37,15 +37,17 @@ fn opened_anew(rt: &HostRuntime) -> io::Result<File> {
     Ok(file)
 }
 
-// An input as it is, but standard input that is a file as one that can go back, at the offset where it stands.
-pub fn seekable(rt: &HostRuntime, reader: Reader) -> Reader
-    ensures { is_open result ≡ is_open reader }
+// Standard input that is a file once more, at the offset where it stands, for its second reading; nothing of any other
+// input. What is read from it does not move the offset that standard input shares with whoever started the program.
+pub fn anew(rt: &HostRuntime, reader: &Reader) -> Reader
+    ensures { is_open result ≡ true → is_standard reader.now ≡ true }
 {
     match reader {
-        Reader::StandardInput(stdin) => match opened_anew(rt) {
+        Reader::StandardInput(_) => match opened_anew(rt) {
             Ok(file) => Reader::OpenFile(file),
-            Err(_) => Reader::StandardInput(stdin),
+            Err(_) => Reader::Closed,
         },
-        other => other,
+        Reader::OpenFile(_) => Reader::Closed,
+        Reader::Closed => Reader::Closed,
     }
 }
