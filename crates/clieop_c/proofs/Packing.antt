@@ -43,8 +43,6 @@ module _ {number column : ℕ} (a : Answer) (n : number ≡ a.number) (c : colum
   pub packs_read : a.number < 256 → a.column < 256 → unpacked (number + 256 * column + 65536 * a.line) ≡ a
   packs_read h k = ap unpacked packs ∙ read_packed a h k
 
-pub ruleset packing = (packs, packs_read, rules)
-
 -- ## A number that is lent
 
 module _ (a : Answer) (n before : ℕ) where

@@ -36,20 +36,4 @@ else_is b d h k = rw (h, k)
 
 pub ruleset tests = (by_call, both_are, first_fails, second_fails, first_holds, else_is, lt-ltb, le-ltb, le-leb, lt-leb, eq-eqb, ne_eqb)
 
--- ## What a function answers: two tests, one after the other
-
-pub and_yes : {x : Bool} (b d : Bool) → b ≡ true → x ≡ d → x ≡ (b && d)
-and_yes b d h p = rw h p
-
-pub and_no : (b d : Bool) → b ≡ false → false ≡ (b && d)
-and_no b d h = rw h
-
-pub or_yes : (b d : Bool) → b ≡ true → true ≡ (b || d)
-or_yes b d h = rw h
-
-pub or_not : {x : Bool} (b d : Bool) → b ≡ false → x ≡ d → x ≡ (b || d)
-or_not b d h p = rw h p
-
-pub ruleset ands = (and_yes, and_no, or_yes, or_not, lt-ltb, le-ltb, le-leb, lt-leb, eq-eqb, ne_eqb)
-
 pub ruleset picks = (pick_yes, pick_no, tests)

@@ -4,7 +4,6 @@ use mathlib.Core.Path.{◌≡◌, ◌∙◌, ap, ap₂}
 use mathlib.Core.List.{List, ◌++◌}
 use mathlib.Core.Bool.{Bool, true, false}
 use native.Mathlib.Omega.{arith}
-use borrow.Author.Rules.{rules}
 use borrow.Author.Tests.{eq-eqb, ne_eqb, le-leb, lt-leb}
 use lib.ListN.{length, drop}
 use Rattle.machine.specs.Lists.{pick, put_in}
@@ -65,8 +64,6 @@ module _ (s : Search) (a : Answer) (out : List ℕ) where
   unfolding room_by pick
   room_filled {o} {t} z e f l g n h = put_front out t (omega (arith, n)) h ∙ ap (λ m. t ++ drop m out) n ∙ ap (λ y. y ++ drop 128 out) g ∙ rw (eq-eqb _ _ z, ← e, f, le-leb 128 (length out) l)
 
-pub ruleset rooms = (by_refusal, by_none, by_room, by_item, room_refused, room_none, room_small, room_filled, rules)
-
 -- ## A search handed in
 
 module _ {q : Bool} (s : Search) (a : Answer) (e : q ≡ is_within s.found) where
@@ -85,8 +82,6 @@ module _ {q : Bool} (s : Search) (a : Answer) (e : q ≡ is_within s.found) wher
   pub room_beyond : (out : List ℕ) → q ≡ false → out ≡ room_at s a out
   unfolding room_at pick
   room_beyond out f = rw (← e, f)
-
-pub ruleset limits = (at_within, at_beyond, room_within, room_beyond, rules)
 
 -- ## The whole
 

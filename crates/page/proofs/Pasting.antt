@@ -8,8 +8,6 @@ use borrow.Author.Rules.{rules}
 use borrow.Author.Tests.{le-leb, lt-leb, leb-true, ltb-true, ltb-false}
 use lib.ListN.{length, length-append}
 use lib.Dec.{leb, ltb}
-use mir.Val.{Fits}
-use mir.Syntax.{w64}
 use Rattle.machine.specs.Lists.{pick, pasted, put_in}
 use Rattle.field.proofs.Putting.{put_next}
 use Rattle.page.specs.Lines.{line_of, with_text}
@@ -61,12 +59,6 @@ module _ {r : Bool} (page : List ℕ) (at : ℕ) (key text : List ℕ) (e : r �
 
   room : r ≡ true → at + (length key + (length text + 1)) ≤ length page
   room h = leb-true (at + (length key + (length text + 1))) (length page) (sym e ∙ h)
-
-  pub both_fit : r ≡ true → at + (length key + length text) ≤ length page
-  both_fit h = let k = room h in omega arith
-
-  pub end_fits : {a : ℕ} → r ≡ true → a ≡ at + (length key + length text) → Fits w64 (length page) → Fits w64 (a + 1)
-  end_fits h f g = let k = room h in omega arith
 
   -- (under `Unit` a `search` does not look for p in the last premise, in which it would end at a limit)
   pub line_put : {p l : List ℕ} {a : ℕ} → r ≡ true → a ≡ at + (length key + length text) → p ≡ pasted page at (key ++ text) → (Unit {0} → l ≡ put_in p a (10 ∷ [])) → (l, a + 1) ≡ with_text (page, at) (line_of key text)

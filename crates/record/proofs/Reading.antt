@@ -7,7 +7,7 @@ use native.Mathlib.Omega.{arith}
 use borrow.Author.Tests.{eq-eqb, eqb-true, leb-true}
 use lib.ListN.{length, take, drop, length-take}
 use lib.Dec.{leb, eqb}
-use Rattle.machine.specs.Lists.{pick, same, pasted, put_in}
+use Rattle.machine.specs.Lists.{pick, pasted, put_in}
 use Rattle.machine.proofs.Base.{and_first, and_second, true≢false}
 use Rattle.format.specs.Fields.{Field, numeric, filled, optional, free, filler, width, well_formed, read_field}
 use Rattle.format.specs.Records.{layout}
@@ -52,9 +52,6 @@ transaction_via line e h = h ∙ ap (λ (x : TransactionFields). transaction_rec
 pub header_made : {g : Group} {a s : ℕ} (identified : Bool) (line : List ℕ) → g ≡ group_of (take 2 (drop 5 line)) → a ≡ (digits_of (take 10 (drop 7 line))).value → s ≡ (digits_of (take 4 (drop 17 line))).value → the.BatchHeader g a s identified ≡ header_for identified line
 header_made true line e f h = rw (e, f, h)
 header_made false line e f h = rw (e, f, h)
-
-pub same_of : {p : List ℕ} {b : Bool} (l t : List ℕ) → p ≡ l → b ≡ same p t → b ≡ same l t
-same_of l t d e = rw (← d) e
 
 pub record_via : {k m : Kind} {x : Record} (line : List ℕ) → k ≡ m → x ≡ record_for m (values_of m line) → x ≡ record_for k (values_of k line)
 record_via line e h = rw e h

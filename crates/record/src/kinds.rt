@@ -55,6 +55,7 @@ pub fn is_city(line: &[u8]) -> bool
 }
 
 // The records of a file's frame.
+#[tactic(auto, using(field::proofs::Picks::picks), unfolding(crate::specs::Kinds::file_code))]
 fn file_kind(s: &[u8]) -> Code
     ensures { result ≡ file_code s.now }
 {
@@ -68,6 +69,7 @@ fn file_kind(s: &[u8]) -> Code
 }
 
 // The records of a batch's frame.
+#[tactic(auto, using(field::proofs::Picks::picks), unfolding(crate::specs::Kinds::batch_code))]
 fn batch_kind(s: &[u8]) -> Code
     ensures { result ≡ batch_code s.now }
 {
@@ -90,6 +92,7 @@ fn batch_kind(s: &[u8]) -> Code
 }
 
 // The records that only debits have.
+#[tactic(auto, using(field::proofs::Picks::picks), unfolding(crate::specs::Kinds::debit_code))]
 fn debit_kind(s: &[u8]) -> Code
     ensures { result ≡ debit_code s.now }
 {
@@ -103,6 +106,7 @@ fn debit_kind(s: &[u8]) -> Code
 }
 
 // The records of a payment, the most frequent ones.
+#[tactic(auto, using(field::proofs::Picks::picks), unfolding(crate::specs::Kinds::code_of))]
 fn kind_in(s: &[u8]) -> Code
     ensures { result ≡ code_of s.now }
 {

@@ -93,6 +93,7 @@ pub fn type_text(kind: TransactionType) -> [u8; 4]
     }
 }
 
+#[tactic(auto, using(field::proofs::Picks::picks), unfolding(format::specs::Rules::type_of))]
 fn type_of(s: &[u8]) -> TypeRead
     ensures { result ≡ type_of s.now }
 {

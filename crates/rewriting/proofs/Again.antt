@@ -267,7 +267,7 @@ all_again file z =
       only_ends = only_ends file;
       accepted_again = accepted_again file z;
       in_language = (means (without_cities file)).accepted_exactly.0 (accepted_again file z);
-      without_cities_lem = without_cities_lem file z;
+      without_cities = without_cities_lem file z;
       by_writer = by_writer file z;
     }
 

@@ -205,5 +205,3 @@ module _ {r : FileRead} {o : List ℕ} (file out : List ℕ) (e : r ≡ read_of 
 -- what is said to be written fits
 pub written_fits : {n room : ℕ} → n ≤ room / 52 → n * 52 ≤ room
 written_fits l = omega arith
-
-pub ruleset rooms = (by_refusal, by_room, by_acceptance, room_refused, room_small, room_filled, rules)

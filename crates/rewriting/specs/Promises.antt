@@ -51,7 +51,7 @@ pub record Again (file bytes : List ℕ) : Type 0 where
   -- of every file: the reader accepts them, so they are a file of the language, and none of it is a city record
   pub accepted_again : (check_of bytes).number ≡ accepted
   pub in_language : InLanguage bytes
-  pub without_cities_lem : no_city (lines_in bytes) ≡ true
+  pub without_cities : no_city (lines_in bytes) ≡ true
   -- and they are what the writer writes of the file's records but cities, one after the other from its own start
   pub by_writer : Rewrites start_state start_state file bytes
 

@@ -1,7 +1,16 @@
--- Whether something was written, from what calls answered. Assumes nothing.
-use mathlib.Core.Path.{◌≡◌, sym, ap, ◌∙◌}
-use mathlib.Core.Bool.{Bool, true, false}
-use Rattle.std.specs.Prelude.{Result, Ok, Err, is_ok}
+-- What was written, read or told, from what calls answered. Assumes nothing.
+use mathlib.Core.Path.{◌≡◌, refl, sym, ap, ◌∙◌}
+use mathlib.Core.Bool.{true, false}
+use Rattle.std.specs.Prelude.{ℕ, Result, Ok, Err, is_ok}
+use Rattle.std.specs.IoError.{error_kind}
+use Rattle.std.specs.declared.env.FillError.{FillError}
+use Rattle.std.specs.declared.env.FillError.TheVariants.{NotPresent}
+use Rattle.std.specs.declared.io.Error.{Error}
+use Rattle.std.specs.declared.io.ErrorKind.{ErrorKind}
+use Rattle.std.specs.declared.io.ErrorKind.TheVariants.{BrokenPipe}
+use Rattle.streams.specs.Opened.{is_given}
+use Rattle.streams.specs.Status.{failed_by, printed_of}
+use Rattle.streams.specs.declared.output.Printed.TheVariants.{Whole, Failed, Unread}
 
 module _ {A E : Type 0} {w : Result A E} where
   pub written_ok : {x : A} → w ≡ Ok x → true ≡ is_ok w
@@ -10,8 +19,20 @@ module _ {A E : Type 0} {w : Result A E} where
   pub written_err : {x : E} → w ≡ Err x → false ≡ is_ok w
   written_err e = sym (ap is_ok e)
 
-pub not_written : {t w : Bool} → (t ≡ true → w ≡ false) → t ≡ true → false ≡ w
-not_written h e = sym (h e)
+failed_so : (k : ErrorKind) → (k ≡ BrokenPipe → ⊥) → Failed ≡ failed_by k
+failed_so BrokenPipe n = absurd (n refl)
+failed_so _ n = refl
 
-pub answered_so : {t w v : Bool} → t ≡ w → t ≡ v → v ≡ w
-answered_so p q = sym q ∙ p
+module _ {A : Type 0} {w : Result A Error} where
+  pub printed_whole : {x : A} → w ≡ Ok x → Whole ≡ printed_of w
+  printed_whole e = sym (ap printed_of e)
+
+  module _ {x : Error} {k : ErrorKind} (e : w ≡ Err x) (f : k ≡ error_kind x) where
+    pub printed_unread : k ≡ BrokenPipe → Unread ≡ printed_of w
+    printed_unread h = sym (ap printed_of e ∙ ap failed_by (sym f ∙ h))
+
+    pub printed_failed : (k ≡ BrokenPipe → ⊥) → Failed ≡ printed_of w
+    printed_failed n = failed_so k n ∙ ap failed_by f ∙ sym (ap printed_of e)
+
+pub given_not : {r : Result ℕ FillError} {x : FillError} → r ≡ Err x → x ≡ NotPresent → false ≡ is_given r
+given_not e h = sym (ap is_given e ∙ ap (λ y. is_given (Err y)) h)

@@ -17,12 +17,8 @@ is_standard Closed = false
 is_standard (StandardInput _) = true
 is_standard (OpenFile _) = false
 
--- an argument is longer than what it was to be read into
-abbrev pub is_long : FillError → Bool
-is_long NotPresent = false
-is_long TooLong = true
-
 -- there is an argument, by what an attempt to read it came to
 abbrev pub is_given : Result ℕ FillError → Bool
 is_given (Ok _) = true
-is_given (Err e) = is_long e
+is_given (Err NotPresent) = false
+is_given (Err TooLong) = true

@@ -1,5 +1,9 @@
 -- How a program ends: 0, everything accepted and written; 1, something refused; 2, something not opened, read or written.
-use Rattle.std.specs.Prelude.{ℕ, ◌+◌, min, Bool, true, false, eqb}
+use Rattle.std.specs.Prelude.{ℕ, ◌+◌, min, Bool, true, false, eqb, Result, Ok, Err}
+use Rattle.std.specs.IoError.{error_kind}
+use Rattle.std.specs.declared.io.Error.{Error}
+use Rattle.std.specs.declared.io.ErrorKind.{ErrorKind}
+use Rattle.std.specs.declared.io.ErrorKind.TheVariants.{BrokenPipe}
 use Rattle.machine.specs.Lists.{pick}
 use Rattle.streams.specs.declared.output.Printed.{Printed}
 use Rattle.streams.specs.declared.output.Printed.TheVariants.{Whole, Failed, Unread}
@@ -11,6 +15,15 @@ status_of number done = pick done (pick (eqb number 0) 0 1) 2
 -- as one digit
 unfoldable pub status_digit : ℕ → ℕ
 status_digit status = 48 + min status 2
+
+-- of what was printed, by what writing it came to: nobody reads it any more where the pipe that it goes into is broken
+abbrev pub failed_by : ErrorKind → Printed
+failed_by BrokenPipe = Unread
+failed_by _ = Failed
+
+abbrev pub printed_of : {A : Type 0} → Result A Error → Printed
+printed_of (Ok _) = Whole
+printed_of (Err e) = failed_by (error_kind e)
 
 -- all of it was written
 abbrev pub is_whole : Printed → Bool

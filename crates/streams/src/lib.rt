@@ -5,7 +5,7 @@
 
 ghost use Rattle.std.specs.Prelude.{◌≡◌, ◌+◌, ◌≤◌, length};
 ghost use Rattle.streams.specs.Counts.{IsPrefixLen};
-ghost use Rattle.streams.specs.Opened.{is_given, is_long};
+ghost use Rattle.streams.specs.Opened.{is_given};
 
 use failures::{fail, tell};
 use reader::open_named;
@@ -76,23 +76,16 @@ pub fn open(rt: &HostRuntime, i: usize, name: &mut [u8]) -> Input
     }
 }
 
-// Whether an argument that was not read is there.
-fn is_long(error: FillError) -> bool
-    ensures { result ≡ is_long error }
-{
-    match error {
-        FillError::NotPresent => false,
-        FillError::TooLong => true,
-    }
-}
-
 // Whether there is an argument, by what an attempt to read it came to.
 pub fn is_given(read: Result<usize, FillError>) -> bool
     ensures { result ≡ is_given read }
 {
     match read {
         Ok(_) => true,
-        Err(e) => is_long(e),
+        Err(e) => match e {
+            FillError::NotPresent => false,
+            FillError::TooLong => true,
+        },
     }
 }
 

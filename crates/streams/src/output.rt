@@ -1,6 +1,6 @@
 // Standard output, and what became of what was printed there.
-ghost use Rattle.std.specs.Prelude.{◌≡◌, is_ok, true, false};
-ghost use Rattle.streams.specs.Status.{is_whole};
+ghost use Rattle.std.specs.Prelude.{◌≡◌, is_ok};
+ghost use Rattle.streams.specs.Status.{is_whole, printed_of};
 
 use crate::failures::fail;
 use std::io;
@@ -39,24 +39,18 @@ pub fn told(rt: &HostRuntime, written: io::Result<()>) -> bool
     }
 }
 
-fn is_unread(written: &io::Result<()>) -> bool
-    ensures { result ≡ true → is_ok written.now ≡ false }
-{
-    match written {
-        Ok(()) => false,
-        Err(e) => e.kind() == ErrorKind::BrokenPipe,
-    }
-}
-
 // What became of it; that nobody reads it any more is not told.
 pub fn outcome(rt: &HostRuntime, written: io::Result<()>) -> Printed
-    ensures { is_whole result ≡ is_ok written }
+    ensures { result ≡ printed_of written }
 {
-    if is_unread(&written) {
-        return Printed::Unread;
+    match written {
+        Ok(()) => Printed::Whole,
+        Err(e) => match e.kind() {
+            ErrorKind::BrokenPipe => Printed::Unread,
+            _ => {
+                told(rt, Err(e));
+                Printed::Failed
+            }
+        },
     }
-    if told(rt, written) {
-        return Printed::Whole;
-    }
-    Printed::Failed
 }

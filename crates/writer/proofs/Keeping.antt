@@ -93,7 +93,7 @@ module _ (s : State) (e : Entry) (t : List ℕ) (h : length t ≡ 35) where
       let f = read_back s e t h (eqb-true r.answer.number 0 p.0) in
       let o = ap (take 52) (filled r l out p.0 p.1) ∙ take_at l (drop 52 out) 52 (line_52 s e t h) in
       record {
-        next_line_lem = ap (λ (v : Written). v.answer) w ∙ ap (λ (v : LineRead). v.answer) f;
+        next_line = ap (λ (v : Written). v.answer) w ∙ ap (λ (v : LineRead). v.answer) f;
         same_record = λ rest.
             ap (λ m. step_at s (m ++ rest)) o ∙ step_on (accepts s l (omega (arith, line_52 s e t h)) (eqb-true r.answer.number 0 p.0)) rest ∙ f
             ∙ ap₂ (λ a u. record { answer = a; next = u; bytes = 52; read = record_of s e; text = t }) (sym (ap (λ (v : Written). v.answer) w ∙ ap (λ (v : LineRead). v.answer) f)) (sym (ap (λ (v : Written). v.next) w));

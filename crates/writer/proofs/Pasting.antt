@@ -3,7 +3,6 @@ use Prim.Native.Nat.{ℕ, ◌≤◌, ◌<◌}
 use mathlib.Core.Path.{◌≡◌, sym, ◌∙◌, ap}
 use mathlib.Core.List.{List, ◌++◌}
 use native.Mathlib.Omega.{arith}
-use borrow.Author.Rules.{rules}
 use borrow.Author.Tests.{eq-eqb, ne_eqb, le-leb, lt-leb}
 use lib.ListN.{length, drop}
 use Rattle.machine.specs.Lists.{pick, put_in}
@@ -45,8 +44,6 @@ module _ {r x : LineRead} {o : List ℕ} (line out : List ℕ) (e : r ≡ x) whe
   pub room_filled : length line ≡ 52 → r.answer.number ≡ 0 → 52 ≤ length out → o ≡ put_in out 0 line → o ≡ room_by x line out
   unfolding pick
   room_filled n z l h = put_front out line (omega arith) h ∙ ap (λ m. line ++ drop m out) n ∙ sym (ap (λ y. room_by y line out) (sym e) ∙ rw (eq-eqb _ _ z, le-leb 52 (length out) l))
-
-pub ruleset rooms = (by_refusal, by_room, by_acceptance, room_refused, room_small, room_filled, rules)
 
 -- ## The writer
 

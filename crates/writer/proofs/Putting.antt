@@ -12,7 +12,6 @@ use lib.Dec.{eqb, ltb}
 use Rattle.machine.specs.Lists.{pick, all, is_space, put_in}
 use Rattle.machine.specs.Digits.{pow10, decimal}
 use Rattle.machine.proofs.Digits.{length_decimal, decimal_last}
-use Rattle.format.specs.Rules.{test_text}
 use Rattle.format.specs.declared.Kind.{Kind}
 use Rattle.record.specs.Read.{text_part}
 use Rattle.record.specs.declared.read.Part.{Part}
@@ -70,8 +69,3 @@ module _ {x p : List ℕ} {b : Bool} {y : Part} (line : List ℕ) (k : Kind) (t 
   text_unfit c h = own (rw (beyond y.width t d e, c) h)
 
 pub ruleset carries = (number_fits, number_unfit, text_fits, text_unfit, rules)
-
--- ## Test codes
-
-pub test_via : {b c : Bool} {x : List ℕ} (l : List ℕ) → b ≡ c → x ≡ put_in l 47 (test_text c) → x ≡ put_in l 47 (test_text b)
-test_via l e h = h ∙ ap (λ u. put_in l 47 (test_text u)) (sym e)

@@ -54,7 +54,7 @@ entry_of read.FileTrailer = some FileTrailer
 
 -- whatever follows it in the file, the reader accepts the line from the same state, hands out the record and the text that were given, and goes to the same next state
 pub record ReadAsWritten (s : State) (e : Entry) (t : List ℕ) (w : Written) (out : List ℕ) : Type 0 where
-  pub next_line_lem : w.answer ≡ acceptance (s.line + 1)
+  pub next_line : w.answer ≡ acceptance (s.line + 1)
   pub same_record : (rest : List ℕ) → step_at s (take 52 out ++ rest) ≡ record { answer = w.answer; next = w.next; bytes = 52; read = record_of s e; text = t }
 
 -- the same answer and next state, but for the ending that the writer fixes, and the same characters with the writer's end

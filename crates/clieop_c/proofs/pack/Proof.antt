@@ -1,6 +1,6 @@
 -- What pack ensures, by the laws of Packing.
 use borrow.Author.Rules.{rules}
-use Rattle.clieop_c.proofs.Packing.{packing}
+use Rattle.clieop_c.proofs.Packing.{packs, packs_read}
 use Rattle.clieop_c.proofs.pack.Statement.{statement}
 use Rattle.clieop_c.proofs.pack.Tie as tie
 
@@ -14,5 +14,5 @@ pack_spec =
     (λ c. search rules)  -- mul-line
     (λ c. search rules)  -- add-result
     (λ c. search rules)  -- add-result-2
-    (λ c. search packing depth 20 fits 10000)  -- returns
+    (λ c. (search packs depth 2, search (packs_read, rules) depth 2))  -- returns
     )

@@ -9,15 +9,15 @@ hand_out_spec =
     tie.close
     (tie.spec
     (λ c κs. search rules)  -- without-room-requires
-    (λ c. (search (asked_few, rules) depth 20 fits 10000, (search (lacking_numbers, rules) depth 20 fits 10000, (search (texts_few, rules) depth 20 fits 10000, (search (lacking_held, rules) depth 20 fits 10000, search (few_promised, rules) depth 20 fits 10000)))))  -- returns
+    (λ c. (search asked_few depth 2, (search lacking_numbers depth 2, (search texts_few depth 2, (search lacking_held depth 2, search few_promised depth 2)))))  -- returns
     (λ c κs. search rules)  -- without-room-requires-2
-    (λ c. (search (asked_unroomed, rules) depth 20 fits 10000, (search (lacking_numbers, rules) depth 20 fits 10000, (search (texts_unroomed, rules) depth 20 fits 10000, (search (lacking_held, rules) depth 20 fits 10000, search (unroomed_promised, rules) depth 20 fits 10000)))))  -- returns-2
+    (λ c. (search asked_unroomed depth 2, (search lacking_numbers depth 2, (search texts_unroomed depth 2, (search lacking_held depth 2, search unroomed_promised depth 2)))))  -- returns-2
     (λ c κs. search rules)  -- item-requires
     (λ c κs. search rules)  -- put-texts-requires
     (λ c κs. search rules)  -- put-numbers-requires
     (λ c. search rules)  -- same-length
     (λ c. search rules)  -- same-length-2
-    (λ c. (search (asked, rules) depth 20 fits 10000, (search (numbers_handed, rules) depth 20 fits 10000, (search (texts_handed, rules) depth 20 fits 10000, (search (held_handed, rules) depth 20 fits 10000, search (promised_handed, rules) depth 20 fits 10000)))))  -- returns-3
+    (λ c. (search asked depth 2, (search numbers_handed depth 2, (search texts_handed depth 2, (search held_handed depth 2, search promised_handed depth 2)))))  -- returns-3
     (λ c. search rules)  -- same-length-3
-    (λ c. (search (asked, rules) depth 20 fits 10000, (search (numbers_kept, rules) depth 20 fits 10000, (search (texts_refused, rules) depth 20 fits 10000, (search (held_refused, rules) depth 20 fits 10000, search (promised_refused, rules) depth 20 fits 10000)))))  -- returns-4
+    (λ c. (search asked depth 2, (search numbers_kept depth 2, (search texts_refused depth 2, (search held_refused depth 2, search promised_refused depth 2)))))  -- returns-4
     )

@@ -1,6 +1,6 @@
 -- What Search::answered ensures, by the laws of Answering.
 use borrow.Author.Rules.{rules}
-use Rattle.items.proofs.Answering.{limits}
+use Rattle.items.proofs.Answering.{at_within, at_beyond, room_within, room_beyond}
 use Rattle.items.proofs.Search.answered.Statement.{statement}
 use Rattle.items.proofs.Search.answered.Tie as tie
 
@@ -13,6 +13,6 @@ answered_spec =
     (λ c κs. search rules)  -- refusal-requires
     (λ c κs. search rules)  -- refused-requires
     (λ c. search rules)  -- same-length
-    (λ c. (search limits depth 20 fits 10000, search limits depth 20 fits 10000))  -- returns
-    (λ c. (search limits depth 20 fits 10000, search limits depth 20 fits 10000))  -- returns-2
+    (λ c. (search at_within depth 2, search room_within depth 2))  -- returns
+    (λ c. (search at_beyond depth 2, search room_beyond depth 2))  -- returns-2
     )

@@ -14,5 +14,5 @@ item_spec =
     (λ c κs. search rules)  -- lines-requires
     (λ c κs. search rules)  -- hand-out-requires
     (λ c. search rules)  -- same-length
-    (λ c. (search (item_via, rules) depth 20 fits 10000, (search (room_via, rules) depth 20 fits 10000, search (promised_via, rules) depth 20 fits 10000)))  -- returns
+    (λ c. (search item_via depth 2, (search room_via depth 2, search promised_via depth 2)))  -- returns
     )
