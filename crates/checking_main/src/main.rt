@@ -5,7 +5,7 @@
 
 use checking::Checked;
 use field::bytes::part;
-use format::{Answer, Code};
+use format::{Answer, Kind};
 use page::{put_digits, put_euros, put_text};
 use record::Totals;
 use record::kinds::code_of;
@@ -26,7 +26,7 @@ struct Extent {
 // A refused line as it is shown: its code, its first 50 characters, and how many of them.
 #[derive(Clone, Copy)]
 struct LineShown {
-    code: Code,
+    code: Option<Kind>,
     text: [u8; 50],
     count: usize,
 }
@@ -148,7 +148,7 @@ fn shown(number: u8, line: &[u8]) -> LineShown {
     LineShown { code, text, count }
 }
 
-fn put_where(page: &mut [u8], at: usize, line: u64, column: u8, code: Code) -> usize {
+fn put_where(page: &mut [u8], at: usize, line: u64, column: u8, code: Option<Kind>) -> usize {
     let a = put_text(page, at, b": line ");
     let b = put_digits(page, a, line, 1);
     if column == 0 {

@@ -4,7 +4,7 @@
 
 use field::bytes::{is_digits, part};
 use field::numbers::Digits;
-use format::{Answer, TypeRead};
+use format::{Answer, TransactionType};
 use items::{ItemFields, ItemRead, Search};
 use page::{put_answer, put_input, put_line, put_number};
 use reading::State;
@@ -48,13 +48,13 @@ fn put_descriptions(page: &mut [u8], at: usize, texts: &[u8]) -> usize {
 fn put_item(page: &mut [u8], at: usize, fields: ItemFields, texts: &[u8]) -> usize {
     let kind = fields.kind;
     match kind {
-        TypeRead::Of(t) => {
+        Some(t) => {
             let a = put_line(page, at, b"type=", &type_text(t));
             let b = put_numbers(page, a, fields);
             let c = put_texts(page, b, fields);
             put_descriptions(page, c, texts)
         }
-        TypeRead::NoType => at,
+        None => at,
     }
 }
 

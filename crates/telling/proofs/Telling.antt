@@ -1,4 +1,5 @@
 -- Texts put on a page by a table. Assumes nothing.
+use Rattle.format.specs.Records.{Code}
 use Prim.Native.Nat.{ℕ}
 use mathlib.Core.Path.{◌≡◌, subst⁻¹}
 use mathlib.Core.List.{List}
@@ -6,7 +7,6 @@ use borrow.Author.Rules.{rules}
 use borrow.Author.Tests.{eq-eqb, ne_eqb}
 use lib.Dec.{eqb}
 use Rattle.machine.specs.Lists.{pick}
-use Rattle.format.specs.declared.Code.{Code}
 use Rattle.format.specs.declared.Kind.{Kind}
 use Rattle.page.specs.Lines.{with_text}
 use Rattle.telling.specs.Names.{name_in, name_after}

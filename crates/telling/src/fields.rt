@@ -7,7 +7,7 @@ ghost use Rattle.page.specs.Lines.{with_text};
 ghost use Rattle.machine.specs.Texts.{characters};
 ghost use Rattle.telling.specs.Names.{name_in, name_after, field_name};
 
-use format::{Code, Kind};
+use format::Kind;
 use page::put_text;
 
 // A field that is a record's last.
@@ -138,17 +138,17 @@ fn put_in(page: &mut [u8], at: usize, kind: Kind, column: u8) -> usize
     }
 }
 
-fn put_after(page: &mut [u8], at: usize, code: Code, column: u8) -> usize
+fn put_after(page: &mut [u8], at: usize, code: Option<Kind>, column: u8) -> usize
     ensures { (page.new, result) ≡ with_text (page.old, at) (name_after code column) }
 {
     match code {
-        Code::Of(kind) => put_in(page, at, kind, column),
-        Code::Unknown => put_text(page, at, b""),
+        Some(kind) => put_in(page, at, kind, column),
+        None => put_text(page, at, b""),
     }
 }
 
 // The name of the field of that record that begins at a column onto a page, and nothing where none begins.
-pub fn put_field(page: &mut [u8], at: usize, code: Code, column: u8) -> usize
+pub fn put_field(page: &mut [u8], at: usize, code: Option<Kind>, column: u8) -> usize
     ensures { (page.new, result) ≡ with_text (page.old, at) (field_name code column) }
 {
     if column == 1 {
