@@ -1,8 +1,8 @@
 -- The eleven check by digits, and the accounts of a transaction. Assumes nothing.
 use Prim.Native.Nat.{ℕ, suc, ◌+◌, ◌-◌, ◌*◌, ◌%◌, ◌<◌, ◌≤◌}
-use mathlib.Core.Path.{◌≡◌, sym, ap, ◌∙◌}
+use mathlib.Core.Path.{◌≡◌, refl, sym, ap, ◌∙◌}
 use mathlib.Core.List.{List}
-use mathlib.Core.Bool.{Bool, true, false, or-true, or-false}
+use mathlib.Core.Bool.{Bool, true, false, not, ◌&&◌, or-true, or-false}
 use native.Mathlib.Omega.{arith}
 use native.Mathlib.Numerals.{add-one}
 use borrow.Author.Rules.{rules}
@@ -12,16 +12,18 @@ use lib.Seq.{drop-cons}
 use lib.Dec.{eqb}
 use mir.Val.{Fits}
 use mir.Syntax.{w64}
+use Rattle.std.specs.Prelude.{Result, Ok}
 use Rattle.machine.specs.Lists.{pick, all, is_digit}
 use Rattle.machine.specs.Digits.{value_of}
 use Rattle.format.specs.Rules.{max_account, is_eleven, is_ordering_account, is_seven_digits, is_account, is_own_if, is_seven_if}
 use Rattle.format.specs.Answers.{differs, ordinary_account}
-use Rattle.format.specs.Tests.{range_tests, role_tests}
-use Rattle.field.specs.declared.numbers.Digits.{Digits}
-use Rattle.field.specs.declared.numbers.Numeric.{Numeric}
-use Rattle.field.specs.Leaf.{TenDigits, wrong_as, digits_of, numeric_of}
+use Rattle.format.specs.Tests.{Test, role_tests}
+use Rattle.format.specs.declared.Refusal.{Refusal}
+use Rattle.field.specs.Leaf.{Numeric}
+use Rattle.field.specs.Leaf.{TenDigits, wrong_as, right_of, numeric_of, numeric_read}
 use Rattle.field.specs.Taught.{running_totals, added, second_sum, is_eleven_taught}
-use Rattle.field.proofs.Numerics.{first_of, is_digits, next_low, next_high, next_left, is_right, digits_below, tested_of, range_not, range_low, range_in}
+use Rattle.field.proofs.Numerics.{first_of, is_digits, next_low, next_high, next_left, value_below}
+use Rattle.field.proofs.Results.{results}
 use Rattle.field.proofs.Rows.{of_value}
 use Rattle.field.proofs.Taught.{same_of_ten}
 
@@ -95,9 +97,24 @@ pub ruleset elevens = (ordering_yes, ordering_no, account_short, account_long, r
 
 -- ## The number
 
--- no ten digits are above the largest account
-pub ten_most : {d : Digits} (m : List ℕ) → d ≡ digits_of (take 10 m) → d.value ≤ max_account
-ten_most m e = omega (arith, digits_below 10 m e)
+-- what a call on ten characters answered
+module _ {f : Result ℕ Refusal} {v : ℕ} (tests : ℕ → List Test) (m : List ℕ) (e : numeric_read f ≡ numeric_of tests (take 10 m)) (w : f ≡ Ok v) where
+  nothing : (numeric_read f).number ≡ 0
+  nothing = ap (λ (g : Result ℕ Refusal). (numeric_read g).number) w
+
+  ten : all is_digit (take 10 m) ≡ true
+  unfolding numeric_of
+  ten = is_digits tests (take 10 m) (sym (ap (λ (n : Numeric). n.number) e) ∙ nothing)
+
+  stands : v ≡ value_of (take 10 m)
+  stands = sym (ap (λ (g : Result ℕ Refusal). (numeric_read g).value) w) ∙ of_value tests (take 10 m) e nothing
+
+  -- no ten digits are above the largest account
+  pub ten_most : v ≤ max_account
+  ten_most = rw stands (omega (arith, value_below 10 (take 10 m) (rw length-take (omega arith)) ten))
+
+  pub ten_digits_lem : {p : List ℕ} → p ≡ take 10 m → TenDigits p v
+  ten_digits_lem q = record { short = rw (q, length-take) (omega arith); digits = rw q ten; value = stands ∙ ap value_of (sym q) }
 
 pub none_low : {n : ℕ} → n ≡ 0 → n < 1
 none_low h = omega arith
@@ -105,38 +122,33 @@ none_low h = omega arith
 pub some_low : {n : ℕ} → (n ≡ 0 → ⊥) → 1 ≤ n
 some_low h = omega arith
 
-pub ruleset tens = (tested_of, range_not, range_low, range_in, ten_most, none_low, some_low)
-
--- what a call on ten characters answered
-pub ten_digits_lem : {f : Numeric} {p : List ℕ} (low high : ℕ) (m : List ℕ) → p ≡ take 10 m → f ≡ numeric_of (range_tests low high) (take 10 m) → f.number ≡ 0 → TenDigits p f.value
-unfolding numeric_of
-ten_digits_lem low high m q e z =
-    record {
-      short = rw (q, length-take) (omega arith);
-      digits = rw q (is_digits (range_tests low high) (take 10 m) (sym (ap (λ (n : Numeric). n.number) e) ∙ z));
-      value = of_value (range_tests low high) (take 10 m) e z ∙ ap value_of (sym q);
-    }
+pub ruleset tens = (results, ten_most, none_low, some_low)
 
 -- ## Whose account it is
 
-module _ {asked : Bool} (f : Numeric) where
-  pub seven_asked : {short q : Bool} → asked ≡ true → short ≡ is_seven_digits f.value → short ≡ q → is_seven_if asked f.value ≡ q
+module _ {short : Bool} (asked : Bool) (v : ℕ) (e : short ≡ is_seven_digits v) where
+  by_asked : {q : Bool} → (asked && not short) ≡ q → is_seven_if asked v ≡ not q
   unfolding is_seven_if
-  seven_asked h e s = rw h (sym e ∙ s)
+  by_asked h = by asked short e h
+    where
+      by : {q : Bool} (asked short : Bool) → short ≡ is_seven_digits v → (asked && not short) ≡ q → is_seven_if asked v ≡ not q
+      by true true e h = sym e ∙ ap not h
+      by true false e h = sym e ∙ ap not h
+      by false short e h = ap not h
 
-  pub seven_free : asked ≡ false → is_seven_if asked f.value ≡ true
-  unfolding is_seven_if
-  seven_free h = rw h
+  pub seven_not : (asked && not short) ≡ true → is_seven_if asked v ≡ false
+  seven_not h = by_asked h
 
-pub ruleset sevens = (seven_asked, seven_free)
+  pub seven : (asked && not short) ≡ false → is_seven_if asked v ≡ true
+  seven h = by_asked h
 
-module _ {mine : Bool} {r : Numeric} (f : Numeric) (own : ℕ) (unchecked : Bool) (z : f.number ≡ 0) where
-  pub is_own : mine ≡ true → r ≡ pick (eqb f.value own) f (wrong_as differs) → r ≡ first_of (role_tests mine own unchecked f.value) f.value
+module _ {mine : Bool} {r : Numeric} (v own : ℕ) (unchecked : Bool) where
+  pub is_own : mine ≡ true → r ≡ pick (eqb v own) (right_of v) (wrong_as differs) → r ≡ first_of (role_tests mine own unchecked v) v
   unfolding is_own_if is_seven_if pick
-  is_own h e = rw h (e ∙ ap (λ g. pick (eqb f.value own) g (wrong_as differs)) (is_right f z))
+  is_own h e = rw h e
 
-  pub is_other : mine ≡ false → r ≡ pick (is_seven_if unchecked f.value) f (wrong_as ordinary_account) → r ≡ first_of (role_tests mine own unchecked f.value) f.value
+  pub is_other : mine ≡ false → r ≡ pick (is_seven_if unchecked v) (right_of v) (wrong_as ordinary_account) → r ≡ first_of (role_tests mine own unchecked v) v
   unfolding is_own_if pick
-  is_other h e = rw h (e ∙ ap (λ g. pick (is_seven_if unchecked f.value) g (wrong_as ordinary_account)) (is_right f z))
+  is_other h e = rw h e
 
 pub ruleset roles = (is_own, is_other)

@@ -5,6 +5,7 @@ pub mod Forms
 pub mod Days
 pub mod Arrivals
 pub mod Taught
+pub mod Results
 pub mod Elevens
 pub mod Rows
 pub mod Putting

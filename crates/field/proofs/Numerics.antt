@@ -18,8 +18,8 @@ use Rattle.machine.proofs.Base.{and_first, and_second}
 use Rattle.format.specs.Fields.{numeric}
 use Rattle.format.specs.Tests.{Test, test, range_tests}
 use Rattle.format.proofs.Checks.{read_field_lem}
-use Rattle.field.specs.declared.numbers.Digits.{Digits}
-use Rattle.field.specs.declared.numbers.Numeric.{Numeric}
+use Rattle.field.specs.Leaf.{Digits}
+use Rattle.field.specs.Leaf.{Numeric}
 use Rattle.field.specs.Rows.{first_answer, field_answer}
 use Rattle.field.specs.Leaf.{no_digits, digits_of, wrong_as, right_of, numeric_by, numeric_answer, numeric_of, tested_by}
 use Rattle.field.proofs.Picks.{picks, by_call}

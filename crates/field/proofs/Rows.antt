@@ -11,7 +11,7 @@ use Rattle.machine.specs.Lists.{pick}
 use Rattle.machine.specs.Digits.{value_of}
 use Rattle.format.specs.Fields.{numeric}
 use Rattle.format.specs.Tests.{Test}
-use Rattle.field.specs.declared.numbers.Numeric.{Numeric}
+use Rattle.field.specs.Leaf.{Numeric}
 use Rattle.field.specs.Rows.{Row, row, field_answer, first_or}
 use Rattle.field.specs.Leaf.{numeric_answer, numeric_of}
 

@@ -1,13 +1,23 @@
 -- Numeric fields of at most 18 digits: what is wrong, and the value where nothing is.
-use Rattle.std.specs.Prelude.{ℕ, ◌≤◌, ◌≡◌, List, true, false, ◌&&◌, length, leb, eqb}
+use Rattle.std.specs.Prelude.{ℕ, ◌≤◌, ◌≡◌, List, [], Bool, true, false, ◌&&◌, length, leb, eqb, Result, Ok, Err, ⊤}
 use Rattle.machine.specs.Lists.{pick, all, is_digit}
 use Rattle.machine.specs.Digits.{value_of}
 use Rattle.format.specs.Fields.{numeric}
-use Rattle.format.specs.Answers.{wrong_form}
+use Rattle.format.specs.Answers.{wrong_form, number_of}
+use Rattle.format.specs.declared.Refusal.{Refusal}
+use Rattle.format.specs.declared.Refusal.TheVariants.{WrongForm}
 use Rattle.format.specs.Tests.{Test}
 use Rattle.field.specs.Rows.{first_answer, field_answer}
-use Rattle.field.specs.declared.numbers.Digits.{Digits}
-use Rattle.field.specs.declared.numbers.Numeric.{Numeric}
+
+-- digits and what they stand for, 0 where they are none
+pub record Digits : Type 0 where
+  pub ok : Bool
+  pub value : ℕ
+
+-- what is wrong with a numeric field, and its value where nothing is
+pub record Numeric : Type 0 where
+  pub number : ℕ
+  pub value : ℕ
 
 abbrev pub no_digits : Digits
 no_digits = record { ok = false; value = 0 }
@@ -35,6 +45,21 @@ numeric_answer tests l = pick (leb (length l) 18) (field_answer (numeric (length
 
 unfoldable pub numeric_of : (ℕ → List Test) → List ℕ → Numeric
 numeric_of tests l = numeric_by (numeric_answer tests l) (value_of l)
+
+-- digits alone
+abbrev pub no_tests : ℕ → List Test
+no_tests v = []
+
+-- ## What functions hand out, in these words
+
+abbrev pub numeric_read : Result ℕ Refusal → Numeric
+numeric_read (Ok v) = right_of v
+numeric_read (Err r) = wrong_as (number_of r)
+
+-- by the form alone
+abbrev pub formed : Bool → Result ⊤ Refusal
+formed true = Ok tt
+formed false = Err WrongForm
 
 -- ## Accounts by their digits: what functions ask that are not public
 

@@ -4,11 +4,12 @@ ghost use Rattle.machine.specs.Lists.{pick, all, is_digit};
 ghost use Rattle.format.specs.Rules.{max_account, is_ordering_account, is_seven_digits, is_account, is_seven_if};
 ghost use Rattle.format.specs.Answers.{differs, ordinary_account};
 ghost use Rattle.format.specs.Tests.{range_tests, ordering_tests, party_tests};
-ghost use Rattle.field.specs.Leaf.{TenDigits, wrong_as, numeric_of};
+ghost use Rattle.field.specs.Leaf.{TenDigits, wrong_as, right_of, numeric_read, numeric_of};
 ghost use Rattle.field.specs.Taught.{is_eleven_taught};
 
 use crate::bytes::part;
-use crate::numbers::{Numeric, digits_at, right, wide, wrong};
+use crate::numbers::{digits_at, wide};
+use format::Refusal;
 
 // The eleven check as it is taught: 'add the digits one after the other, and add each running total into a second one'
 // (02). They pass where that divides by 11.
@@ -55,76 +56,61 @@ fn is_account(s: &[u8], v: u64) -> bool
 }
 
 // Ten digits that are not all zero. None are above the largest account, so that is not asked.
-fn account_number(line: &[u8], at: usize) -> Numeric
-    ensures { result ≡ numeric_of (range_tests 1 max_account) (take 10 (drop at line.now)) }
+#[tactic(auto, using(crate::proofs::Results::results))]
+fn account_number(line: &[u8], at: usize) -> Result<u64, Refusal>
+    ensures { numeric_read result ≡ numeric_of (range_tests 1 max_account) (take 10 (drop at line.now)) }
 {
-    let d = digits_at(line, at, 10);
-    if d.ok {
-        if d.value == 0 {
-            return wrong(format::WRONG_VALUE);
-        }
-        right(d.value)
-    } else {
-        wrong(format::WRONG_FORM)
+    let account = digits_at(line, at, 10)?;
+    if account == 0 {
+        return Err(Refusal::WrongValue);
     }
+    Ok(account)
 }
 
 // The ordering account of a batch.
-pub fn ordering(line: &[u8], at: usize) -> Numeric
-    ensures { result ≡ numeric_of ordering_tests (take 10 (drop at line.now)) }
+#[tactic(auto, using(crate::proofs::Results::results))]
+pub fn ordering(line: &[u8], at: usize) -> Result<u64, Refusal>
+    ensures { numeric_read result ≡ numeric_of ordering_tests (take 10 (drop at line.now)) }
 {
-    let f = account_number(line, at);
-    if f.number != 0 {
-        return f;
+    let account = account_number(line, at)?;
+    if is_ordering_account(part(line, at, 10), account) {
+        return Ok(account);
     }
-    if is_ordering_account(part(line, at, 10), f.value) {
-        f
-    } else {
-        wrong(format::WRONG_ACCOUNT)
-    }
+    Err(Refusal::WrongAccount)
 }
 
-// The own account, which has to be the ordering account; f is a number that is an account.
-fn own_party(f: Numeric, own: u64) -> Numeric
-    ensures { result ≡ pick (eqb f.value own) f (wrong_as differs) }
+// The own account, which has to be the ordering account.
+#[tactic(auto, using(crate::proofs::Picks::picks))]
+fn own_party(account: u64, own: u64) -> Result<u64, Refusal>
+    ensures { numeric_read result ≡ pick (eqb account own) (right_of account) (wrong_as differs) }
 {
-    if f.value == own {
-        f
-    } else {
-        wrong(format::DIFFERS)
+    if account == own {
+        return Ok(account);
     }
+    Err(Refusal::Differs)
 }
 
 // The other party's, which has seven digits at most where the type is unchecked.
-fn other_party(f: Numeric, unchecked: bool) -> Numeric
-    ensures { result ≡ pick (is_seven_if unchecked f.value) f (wrong_as ordinary_account) }
+fn other_party(account: u64, unchecked: bool) -> Result<u64, Refusal>
+    ensures { numeric_read result ≡ pick (is_seven_if unchecked account) (right_of account) (wrong_as ordinary_account) }
 {
-    if unchecked {
-        if is_seven_digits(f.value) {
-            f
-        } else {
-            wrong(format::ORDINARY_ACCOUNT)
-        }
-    } else {
-        f
+    if unchecked & !is_seven_digits(account) {
+        return Err(Refusal::OrdinaryAccount);
     }
+    Ok(account)
 }
 
 // An account of a transaction: the own one, or the other party's.
-pub fn party(line: &[u8], at: usize, mine: bool, own: u64, unchecked: bool) -> Numeric
-    ensures { result ≡ numeric_of (party_tests mine own unchecked) (take 10 (drop at line.now)) }
+#[tactic(auto, using(crate::proofs::Results::results))]
+pub fn party(line: &[u8], at: usize, mine: bool, own: u64, unchecked: bool) -> Result<u64, Refusal>
+    ensures { numeric_read result ≡ numeric_of (party_tests mine own unchecked) (take 10 (drop at line.now)) }
 {
-    let f = account_number(line, at);
-    if f.number != 0 {
-        return f;
+    let account = account_number(line, at)?;
+    if !is_account(part(line, at, 10), account) {
+        return Err(Refusal::WrongAccount);
     }
-    if is_account(part(line, at, 10), f.value) {
-        if mine {
-            own_party(f, own)
-        } else {
-            other_party(f, unchecked)
-        }
-    } else {
-        wrong(format::WRONG_ACCOUNT)
+    if mine {
+        return own_party(account, own);
     }
+    other_party(account, unchecked)
 }

@@ -2,11 +2,11 @@
 ghost use Rattle.std.specs.Prelude.{◌≡◌, true, ◌≤◌, ◌-◌, pos};
 ghost use Rattle.format.specs.Rules.{is_date};
 ghost use Rattle.format.specs.Arrival.{days_of_months, day_number, days_ahead, is_near, is_timely, is_possible, arrival_tests};
+ghost use Rattle.format.specs.Answers.{number_in};
 ghost use Rattle.field.specs.Rows.{first_answer};
 
 use crate::dates::{days_in, is_date};
-
-pub const UNTIMELY_DATE: u8 = 21;
+use format::Refusal;
 
 // The days of the months before this one.
 fn days_before(month: u64, year: u64) -> u64
@@ -69,16 +69,16 @@ fn is_timely(arrival: u64, desired: u64) -> bool
 }
 
 // What a desired date that exists is answered.
-pub(crate) fn arrival_answer(arrival: Option<u64>, desired: u64) -> u8
+pub(crate) fn arrival_answer(arrival: Option<u64>, desired: u64) -> Result<(), Refusal>
     requires { is_date desired ≡ true }
-    ensures { result ≡ first_answer (arrival_tests arrival desired) }
+    ensures { number_in result ≡ first_answer (arrival_tests arrival desired) }
 {
     match arrival {
-        None => 0,
+        None => Ok(()),
         Some(date) => if is_timely(date, desired) {
-            0
+            Ok(())
         } else {
-            UNTIMELY_DATE
+            Err(Refusal::UntimelyDate)
         },
     }
 }

@@ -2,9 +2,11 @@
 ghost use Rattle.std.specs.Prelude.{◌≡◌, take, drop};
 ghost use Rattle.format.specs.Rules.{days_in, is_date};
 ghost use Rattle.format.specs.Tests.{date_tests, desired_tests};
-ghost use Rattle.field.specs.Leaf.{numeric_answer, numeric_of};
+ghost use Rattle.format.specs.Answers.{number_in};
+ghost use Rattle.field.specs.Leaf.{numeric_read, numeric_answer, numeric_of};
 
-use crate::numbers::{Numeric, digits_at, right, wrong};
+use crate::numbers::digits_at;
+use format::Refusal;
 
 pub(crate) fn days_in(month: u64, year: u64) -> u64
     ensures { result ≡ days_in month year }
@@ -25,36 +27,25 @@ pub(crate) fn is_date(n: u64) -> bool
     (1 <= month) & (month <= 12) & ((1 <= day) & (day <= last))
 }
 
-pub fn date(line: &[u8], at: usize) -> Numeric
-    ensures { result ≡ numeric_of date_tests (take 6 (drop at line.now)) }
+#[tactic(auto, using(crate::proofs::Results::results))]
+pub fn date(line: &[u8], at: usize) -> Result<u64, Refusal>
+    ensures { numeric_read result ≡ numeric_of date_tests (take 6 (drop at line.now)) }
 {
-    let d = digits_at(line, at, 6);
-    if d.ok {
-        if is_date(d.value) {
-            right(d.value)
-        } else {
-            wrong(format::WRONG_VALUE)
-        }
-    } else {
-        wrong(format::WRONG_FORM)
+    let date = digits_at(line, at, 6)?;
+    if is_date(date) {
+        return Ok(date);
     }
+    Err(Refusal::WrongValue)
 }
 
 // A date that may be zeros.
-pub fn desired_answer(line: &[u8], at: usize) -> u8
-    ensures { result ≡ numeric_answer desired_tests (take 6 (drop at line.now)) }
+#[tactic(auto, using(crate::proofs::Results::results))]
+pub fn desired_answer(line: &[u8], at: usize) -> Result<(), Refusal>
+    ensures { number_in result ≡ numeric_answer desired_tests (take 6 (drop at line.now)) }
 {
-    let d = digits_at(line, at, 6);
-    if d.ok {
-        if d.value == 0 {
-            return 0;
-        }
-        if is_date(d.value) {
-            0
-        } else {
-            format::WRONG_VALUE
-        }
-    } else {
-        format::WRONG_FORM
+    let date = digits_at(line, at, 6)?;
+    if (date == 0) | is_date(date) {
+        return Ok(());
     }
+    Err(Refusal::WrongValue)
 }

@@ -3,23 +3,11 @@ ghost use Rattle.std.specs.Prelude.{◌≡◌, true, ◌+◌, ◌≤◌, ◌<◌
 ghost use Rattle.machine.specs.Lists.{all, is_digit};
 ghost use Rattle.machine.specs.Digits.{decimal, value_of};
 ghost use Rattle.format.specs.Tests.{range_tests, total_tests, equal_tests};
-ghost use Rattle.field.specs.Leaf.{digits_of, wrong_as, right_of, numeric_answer, numeric_of, tested_by};
+ghost use Rattle.format.specs.Answers.{number_in};
+ghost use Rattle.field.specs.Leaf.{no_tests, numeric_read, numeric_answer, numeric_of};
 
 use crate::bytes::{is_digits, part};
-
-// Digits and what they stand for, 0 where they are none.
-#[derive(Clone, Copy)]
-pub struct Digits {
-    pub ok: bool,
-    pub value: u64,
-}
-
-// What is wrong with a numeric field, and its value where nothing is.
-#[derive(Clone, Copy)]
-pub struct Numeric {
-    pub number: u8,
-    pub value: u64,
-}
+use format::Refusal;
 
 pub(crate) fn wide(x: u8) -> u64
     ensures { result ≡ x }
@@ -63,98 +51,62 @@ pub fn spelt(n: u64) -> [u8; 20]
     digits
 }
 
-// At most 18 digits.
-pub(crate) fn digits_in(s: &[u8]) -> Digits
-    ensures { result ≡ digits_of s.now }
+// What digits stand for, of which there are at most 18.
+#[tactic(auto, using(crate::proofs::Results::digits))]
+pub(crate) fn digits_in(s: &[u8]) -> Result<u64, Refusal>
+    ensures { numeric_read result ≡ numeric_of no_tests s.now }
 {
-    if 18 < s.len() {
-        return Digits {
-            ok: false,
-            value: 0,
-        };
+    if (s.len() <= 18) && is_digits(s) {
+        return Ok(value(s));
     }
-    if is_digits(s) {
-        Digits {
-            ok: true,
-            value: value(s),
-        }
-    } else {
-        Digits {
-            ok: false,
-            value: 0,
-        }
-    }
+    Err(Refusal::WrongForm)
 }
 
-pub fn digits_at(line: &[u8], at: usize, width: usize) -> Digits
-    ensures { result ≡ digits_of (take width (drop at line.now)) }
+pub fn digits_at(line: &[u8], at: usize, width: usize) -> Result<u64, Refusal>
+    ensures { numeric_read result ≡ numeric_of no_tests (take width (drop at line.now)) }
 {
     digits_in(part(line, at, width))
 }
 
-pub(crate) fn wrong(number: u8) -> Numeric
-    ensures { result ≡ wrong_as number }
-{
-    Numeric { number, value: 0 }
-}
-
-pub(crate) fn right(value: u64) -> Numeric
-    ensures { result ≡ right_of value }
-{
-    Numeric { number: 0, value }
-}
-
-// Digits that stand for a number from low to high.
-pub fn in_range(d: Digits, low: u64, high: u64) -> Numeric
-    ensures { result ≡ tested_by (range_tests low high) d }
-{
-    if d.ok {
-        if d.value < low {
-            return wrong(format::WRONG_VALUE);
-        }
-        if high < d.value {
-            return wrong(format::WRONG_VALUE);
-        }
-        right(d.value)
-    } else {
-        wrong(format::WRONG_FORM)
-    }
-}
-
 // A field of digits that stand for a number from low to high.
-pub fn ranged(line: &[u8], at: usize, width: usize, low: u64, high: u64) -> Numeric
-    ensures { result ≡ numeric_of (range_tests low high) (take width (drop at line.now)) }
+#[tactic(auto, using(crate::proofs::Results::results))]
+pub fn ranged(line: &[u8], at: usize, width: usize, low: u64, high: u64) -> Result<u64, Refusal>
+    ensures { numeric_read result ≡ numeric_of (range_tests low high) (take width (drop at line.now)) }
 {
-    in_range(digits_at(line, at, width), low, high)
+    let value = digits_at(line, at, width)?;
+    if (low <= value) & (value <= high) {
+        return Ok(value);
+    }
+    Err(Refusal::WrongValue)
 }
 
 // A trailer's number: from low to high, and the right one.
-pub fn total_answer(line: &[u8], at: usize, width: usize, low: u64, high: u64, right: u64) -> u8
-    ensures { result ≡ numeric_answer (total_tests low high right) (take width (drop at line.now)) }
+#[tactic(auto, using(crate::proofs::Results::results))]
+pub fn total_answer(
+    line: &[u8],
+    at: usize,
+    width: usize,
+    low: u64,
+    high: u64,
+    right: u64,
+) -> Result<(), Refusal>
+    ensures { number_in result ≡ numeric_answer (total_tests low high right) (take width (drop at line.now)) }
 {
-    let n = ranged(line, at, width, low, high);
-    if n.number != 0 {
-        return n.number;
+    let total = ranged(line, at, width, low, high)?;
+    if total == right {
+        return Ok(());
     }
-    if n.value == right {
-        0
-    } else {
-        format::WRONG_TRAILER
-    }
+    Err(Refusal::WrongTrailer)
 }
 
 // The same for a number that may be zero.
-pub fn equal_answer(line: &[u8], at: usize, width: usize, right: u64) -> u8
-    ensures { result ≡ numeric_answer (equal_tests right) (take width (drop at line.now)) }
+#[tactic(auto, using(crate::proofs::Results::results))]
+pub fn equal_answer(line: &[u8], at: usize, width: usize, right: u64) -> Result<(), Refusal>
+    ensures { number_in result ≡ numeric_answer (equal_tests right) (take width (drop at line.now)) }
 {
-    let d = digits_at(line, at, width);
-    if d.ok {
-        if d.value == right {
-            0
-        } else {
-            format::WRONG_TRAILER
-        }
-    } else {
-        format::WRONG_FORM
+    let total = digits_at(line, at, width)?;
+    if total == right {
+        return Ok(());
     }
+    Err(Refusal::WrongTrailer)
 }

@@ -1,6 +1,8 @@
 -- The answers of 01 and 02 by name, and an answer with its line and column.
-use Rattle.std.specs.Prelude.{Bool, ◌||◌, ℕ, leb, eqb}
+use Rattle.std.specs.Prelude.{Bool, ◌||◌, ℕ, leb, eqb, Result, Ok, Err}
 use Rattle.format.specs.declared.Answer.{Answer}
+use Rattle.format.specs.declared.Refusal.{Refusal}
+use Rattle.format.specs.declared.Refusal.TheVariants.{BrokenLine, UnknownRecord, MisplacedRecord, WrongForm, WrongValue, WrongAccount, Differs, AboveMaximum, WrongTrailer, EndsEarly, AfterTrailer, NoRoom, NoSuchItem, OrdinaryAccount, UntimelyDate, BeyondLimits}
 
 abbrev pub accepted : ℕ
 accepted = 0
@@ -61,6 +63,10 @@ no_such_item = 13
 abbrev pub ordinary_account : ℕ
 ordinary_account = 14
 
+-- '21, fewer than zero or more than 30 days' (02)
+abbrev pub untimely_date : ℕ
+untimely_date = 21
+
 -- 'a state handed in' beyond 01's limits
 abbrev pub beyond_limits : ℕ
 beyond_limits = 24
@@ -75,3 +81,26 @@ refusal number line column = record { number = number; line = line; column = col
 -- after so many lines
 abbrev pub acceptance : ℕ → Answer
 acceptance line = refusal accepted line 0
+
+abbrev pub number_of : Refusal → ℕ
+number_of BrokenLine = broken_line
+number_of UnknownRecord = unknown_record
+number_of MisplacedRecord = misplaced_record
+number_of WrongForm = wrong_form
+number_of WrongValue = wrong_value
+number_of WrongAccount = wrong_account
+number_of Differs = differs
+number_of AboveMaximum = above_maximum
+number_of WrongTrailer = wrong_trailer
+number_of EndsEarly = ends_early
+number_of AfterTrailer = after_trailer
+number_of NoRoom = no_room
+number_of NoSuchItem = no_such_item
+number_of OrdinaryAccount = ordinary_account
+number_of UntimelyDate = untimely_date
+number_of BeyondLimits = beyond_limits
+
+-- the number that a result stands for: 0 where nothing is refused
+abbrev pub number_in : {A : Type 0} → Result A Refusal → ℕ
+number_in (Ok x) = accepted
+number_in (Err r) = number_of r

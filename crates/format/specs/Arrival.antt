@@ -2,6 +2,7 @@
 use Rattle.std.specs.Prelude.{Bool, true, ◌&&◌, ◌||◌, List, [], ◌∷◌, ℕ, zero, suc, ◌+◌, ◌-◌, ◌/◌, ◌%◌, T, eqb, ℤ, pos, ◌-ℤ◌, Some, None, Option}
 use Rattle.std.specs.Int.Signed.{le_z}
 use Rattle.format.specs.Rules.{days_in, is_date}
+use Rattle.format.specs.Answers.{untimely_date}
 use Rattle.format.specs.Tests.{Test, test}
 
 -- ## Days by the calendar
@@ -47,10 +48,6 @@ InTime (Some arrival) desired = T (is_timely arrival desired)
 unfoldable pub is_possible : Arrival → Bool
 is_possible None = true
 is_possible (Some arrival) = is_date arrival
-
--- '21, fewer than zero or more than 30 days'
-abbrev pub untimely_date : ℕ
-untimely_date = 21
 
 -- by the arrival date, if any
 abbrev pub arrival_tests : Arrival → ℕ → List Test

@@ -3,7 +3,7 @@
 #![tactic(auto)]
 
 ghost use Rattle.std.specs.Prelude.{◌≡◌};
-ghost use Rattle.format.specs.Answers.{refusal, acceptance};
+ghost use Rattle.format.specs.Answers.{refusal, acceptance, number_of};
 ghost use Rattle.format.specs.Cutting.{is_open, broken_cut, cut_of};
 ghost use Rattle.format.specs.Rules.{most_descriptions};
 
@@ -90,6 +90,35 @@ pub enum LineEnd {
 pub struct Cut {
     pub bytes: usize,
     pub ending: Option<LineEnd>,
+}
+
+// What is refused, by the numbers of 01's table.
+#[derive(Clone, Copy, PartialEq, Eq)]
+pub enum Refusal {
+    BrokenLine = 1,
+    UnknownRecord = 2,
+    MisplacedRecord = 3,
+    WrongForm = 4,
+    WrongValue = 5,
+    WrongAccount = 6,
+    Differs = 7,
+    AboveMaximum = 8,
+    WrongTrailer = 9,
+    EndsEarly = 10,
+    AfterTrailer = 11,
+    NoRoom = 12,
+    NoSuchItem = 13,
+    OrdinaryAccount = 14,
+    UntimelyDate = 21,
+    BeyondLimits = 24,
+}
+
+impl Refusal {
+    pub fn number(self) -> u8
+        ensures { result ≡ number_of self }
+    {
+        self as u8
+    }
 }
 
 // The numbers of 01's table.

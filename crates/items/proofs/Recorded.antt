@@ -24,7 +24,7 @@ use Rattle.machine.proofs.Base.{and_first, yes}
 use Rattle.machine.proofs.Digits.{length_decimal, decimal_digits, value_decimal}
 use Rattle.machine.specs.Digits.{decimal}
 use Rattle.field.specs.Rows.{part_at}
-use Rattle.field.specs.declared.numbers.Digits.{Digits}
+use Rattle.field.specs.Leaf.{Digits}
 use Rattle.field.proofs.Numerics.{digits_are}
 use Rattle.record.specs.Read.{transaction_for, value_in, values_at, values_of}
 use Rattle.record.proofs.Reading.{narrow, narrow_first, narrow_rest, narrow_layout}

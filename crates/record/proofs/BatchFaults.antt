@@ -16,7 +16,7 @@ use Rattle.format.specs.Tests.{range_tests, group_tests, ordering_tests, sequenc
 use Rattle.format.specs.declared.Kind.TheVariants.{BatchHeaderB, BatchHeaderC}
 use Rattle.format.specs.declared.Group.{Group}
 use Rattle.format.specs.declared.Group.TheVariants.{Payments, Debits}
-use Rattle.field.specs.declared.numbers.Numeric.{Numeric}
+use Rattle.field.specs.Leaf.{Numeric}
 use Rattle.field.specs.Rows.{Row, row, part_at, answer_at, field_answer, first_or}
 use Rattle.field.specs.Leaf.{numeric_answer, numeric_of}
 use Rattle.field.proofs.Rows.{of_value}

@@ -14,8 +14,8 @@ use Rattle.machine.proofs.Base.{and_first, and_second}
 use Rattle.format.specs.Fields.{filled}
 use Rattle.format.specs.Rules.{is_identification, is_of_day}
 use Rattle.format.specs.Tests.{date_tests, identification_tests}
-use Rattle.field.specs.declared.numbers.Digits.{Digits}
-use Rattle.field.specs.declared.numbers.Numeric.{Numeric}
+use Rattle.field.specs.Leaf.{Digits}
+use Rattle.field.specs.Leaf.{Numeric}
 use Rattle.field.specs.Rows.{field_answer}
 use Rattle.field.specs.Leaf.{digits_of, numeric_of}
 use Rattle.field.proofs.Rows.{of_value}

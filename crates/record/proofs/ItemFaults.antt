@@ -19,7 +19,7 @@ use Rattle.format.specs.Tests.{Tests, type_tests, amount_tests, party_tests, pay
 use Rattle.format.specs.declared.Kind.TheVariants.{Transaction}
 use Rattle.format.specs.declared.Group.{Group}
 use Rattle.format.specs.declared.Group.TheVariants.{Payments, Debits}
-use Rattle.field.specs.declared.numbers.Numeric.{Numeric}
+use Rattle.field.specs.Leaf.{Numeric}
 use Rattle.field.specs.Rows.{Row, row, part_at, field_answer, rows_at, check_rows, first_or}
 use Rattle.field.specs.Leaf.{numeric_of}
 use Rattle.field.proofs.Rows.{row_next, row_none, of_row, of_value}

@@ -19,7 +19,7 @@ use Rattle.format.specs.declared.Kind.{Kind}
 use Rattle.format.specs.declared.Kind.TheVariants.{Transaction}
 use Rattle.format.specs.declared.TransactionType.{TransactionType}
 use Rattle.format.proofs.Every.{every}
-use Rattle.field.specs.declared.numbers.Digits.{Digits}
+use Rattle.field.specs.Leaf.{Digits}
 use Rattle.field.specs.Rows.{Row, part_at, first_answer, field_answer, rows_at, check_rows, fields_at, first_or}
 use Rattle.field.specs.Leaf.{digits_of}
 use Rattle.field.proofs.Numerics.{digits_are}

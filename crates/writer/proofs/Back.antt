@@ -24,7 +24,7 @@ use Rattle.format.specs.declared.TransactionType.{TransactionType}
 use Rattle.format.specs.declared.TransactionType.TheVariants.{UncheckedCreditor, UncheckedSalary, Creditor, Salary, Debit, UncheckedDebit}
 use Rattle.format.proofs.Checks.{field_read}
 use Rattle.format.proofs.Link.{line_widths}
-use Rattle.field.specs.declared.numbers.Digits.{Digits}
+use Rattle.field.specs.Leaf.{Digits}
 use Rattle.field.specs.Leaf.{digits_of}
 use Rattle.field.proofs.Numerics.{digits_are}
 use Rattle.record.specs.Faults.{fields_of}

@@ -1,0 +1,12 @@
+use Rattle.field.proofs.Results.{results}
+use Rattle.field.proofs.Elevens.{ten_digits_lem}
+use Rattle.field.proofs.accounts.ordering.Goals as goal
+
+pub is_ordering_account-requires : goal.is_ordering_account-requires
+is_ordering_account-requires c = search (ten_digits_lem, c.in_ok-account.was)
+
+pub returns-then-is_ordering_account : goal.returns-then-is_ordering_account
+returns-then-is_ordering_account c = search (results, c.in_ok-account.was) depth 4 fits 10000
+
+pub returns : goal.returns
+returns c = search (results, c.in_ok-account.was) depth 4 fits 10000
