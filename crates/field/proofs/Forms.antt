@@ -2,7 +2,7 @@
 use Prim.Native.Nat.{ℕ}
 use mathlib.Core.Path.{◌≡◌, refl, sym, ◌∙◌, subst}
 use mathlib.Core.List.{List, [], ◌∷◌}
-use mathlib.Core.Bool.{Bool, true, false, not, ◌&&◌}
+use mathlib.Core.Bool.{Bool, true, false, not, ◌&&◌, ◌||◌}
 use borrow.Author.Tests.{eqb-true}
 use lib.Dec.{T, eqb}
 use Rattle.machine.specs.Lists.{pick, all, same, is_space}
@@ -57,3 +57,6 @@ optional_filled w l d h e = e ∙ rw (← d, h)
 
 pub same_part : {p : List ℕ} {b v : Bool} (l t : List ℕ) → p ≡ l → b ≡ same p t → b ≡ v → same l t ≡ v
 same_part l t d e h = rw (← d) (sym e ∙ h)
+
+pub either_same : {p : List ℕ} {a b v : Bool} (l t u : List ℕ) → p ≡ l → a ≡ same p t → b ≡ same p u → (a || b) ≡ v → (same l t || same l u) ≡ v
+either_same l t u d e f h = rw (← d, ← e, ← f) h

@@ -2,7 +2,7 @@
 use Prim.Native.Nat.{ℕ, ◌<◌, ◌≤◌}
 use mathlib.Core.Path.{◌≡◌, refl, sym, ap, ◌∙◌, subst}
 use mathlib.Core.List.{List, [], ◌∷◌}
-use mathlib.Core.Bool.{Bool, true, false}
+use mathlib.Core.Bool.{Bool, true, false, ◌&&◌}
 use native.Mathlib.Omega.{arith}
 use lib.ListN.{length}
 use lib.Dec.{eqb, leb}
@@ -17,17 +17,17 @@ use Rattle.format.specs.Tests.{Test}
 use Rattle.format.specs.declared.Refusal.{Refusal}
 use Rattle.format.specs.declared.Refusal.TheVariants.{BrokenLine, UnknownRecord, MisplacedRecord, WrongForm, WrongValue, WrongAccount, Differs, AboveMaximum, WrongTrailer, EndsEarly, AfterTrailer, NoRoom, NoSuchItem, OrdinaryAccount, UntimelyDate, BeyondLimits}
 use Rattle.field.specs.Rows.{first_answer, field_answer}
-use Rattle.field.specs.Leaf.{Numeric, right_of, wrong_as, numeric_by, no_tests, formed, numeric_answer, numeric_of, numeric_read}
+use Rattle.field.specs.Leaf.{Numeric, right_of, wrong_as, numeric_by, no_tests, no_digits, digits_of, formed, numeric_answer, numeric_of, numeric_read}
 use Rattle.field.proofs.Numerics.{Extends, Numbered, first_of, after}
 use Rattle.field.proofs.Numerics as the
 use Rattle.field.proofs.Forms.{form_stop, form_on}
 use Rattle.field.proofs.Picks.{picks}
 
 -- an error that `?` hands on
-abbrev pub HandedOn : {A : Type 0} → Result A Refusal → Refusal → Type 0
+abbrev pub HandedOn : {A E : Type 0} → Result A E → E → Type 0
 HandedOn r x = IsErr r × IsErrAnd r (λ y. y ≡ x)
 
-pub handed : {A : Type 0} {x : Refusal} (r : Result A Refusal) → HandedOn r x → r ≡ Err x
+pub handed : {A E : Type 0} {x : E} (r : Result A E) → HandedOn r x → r ≡ Err x
 handed (Ok y) k = absurd k.1
 handed (Err y) k = ap Err k.1
 
@@ -92,6 +92,16 @@ module _ (l : List ℕ) where
   pub digits_too_long : 18 < length l → wrong_as 4 ≡ numeric_of no_tests l
   unfolding numeric_of numeric_answer pick
   digits_too_long h = rw (lt-leb (length l) 18 h)
+
+-- digits alone are a numeric field without tests
+pub digits_alone : (l : List ℕ) → numeric_of no_tests l ≡ record { number = pick (digits_of l).ok 0 4; value = (digits_of l).value }
+unfolding numeric_of numeric_answer field_answer digits_of pick
+digits_alone l = by (leb (length l) 18) (all is_digit l)
+  where
+    by : (a b : Bool) → ◌≡◌ {A = Numeric} (numeric_by (pick a (pick b 0 4) 4) (value_of l)) (record { number = pick (pick (a && b) (record { ok = true; value = value_of l }) no_digits).ok 0 4; value = (pick (a && b) (record { ok = true; value = value_of l }) no_digits).value })
+    by true true = refl
+    by true false = refl
+    by false b = refl
 
 -- the form of a part of a line
 module _ {p : List ℕ} {b : Bool} (r : Result ⊤ Refusal) (f : Field) (l : List ℕ) (h : r ≡ formed b) (d : p ≡ l) (e : b ≡ well_formed f p) where

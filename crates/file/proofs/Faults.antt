@@ -21,7 +21,7 @@ use Rattle.format.proofs.Every.{every}
 use Rattle.field.specs.Rows.{Row, row, part_at, first_answer, field_answer, rows_at, check_rows, fields_at, first_or}
 use Rattle.record.specs.Read.{record_for}
 use Rattle.record.specs.declared.Record.TheVariants as the
-use Rattle.record.specs.declared.Fault.{Fault}
+use Rattle.record.specs.Faults.{Fault}
 use Rattle.record.specs.declared.Before.{Before}
 use Rattle.record.specs.declared.Batch.{Batch}
 use Rattle.field.proofs.Numerics.{Numbered}

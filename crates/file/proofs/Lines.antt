@@ -34,7 +34,7 @@ use Rattle.record.specs.Read.{transaction_for}
 use Rattle.record.specs.declared.Before.{Before}
 use Rattle.record.specs.declared.Batch.{Batch}
 use Rattle.record.specs.declared.Totals.{Totals}
-use Rattle.record.specs.declared.Fault.{Fault}
+use Rattle.record.specs.Faults.{Fault}
 use Rattle.record.proofs.Faulting.{fault_numbers}
 use Rattle.record.proofs.Coding.{code_is, no_code}
 use Rattle.reading.proofs.Verdicts.{next_line_lem}

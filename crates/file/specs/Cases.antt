@@ -21,7 +21,7 @@ use Rattle.field.specs.Taught.{running_totals, second_sum, is_eleven_taught}
 use Rattle.record.specs.Faults.{nothing_before, after_header, no_totals, fault_at, no_fault, fault_of}
 use Rattle.record.specs.declared.Before.{Before}
 use Rattle.record.specs.declared.Batch.{Batch}
-use Rattle.record.specs.declared.Fault.{Fault}
+use Rattle.record.specs.Faults.{Fault}
 use Rattle.reading.specs.State.{no_item, start_state}
 use Rattle.reading.specs.Step.{step_at}
 use Rattle.reading.specs.Check.{check_of, totals_of}

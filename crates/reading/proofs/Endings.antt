@@ -15,7 +15,7 @@ use Rattle.record.specs.Kinds.{code_of}
 use Rattle.record.specs.Faults.{fault_of}
 use Rattle.record.specs.declared.Before.{Before}
 use Rattle.record.specs.declared.Batch.{Batch}
-use Rattle.record.specs.declared.Fault.{Fault}
+use Rattle.record.specs.Faults.{Fault}
 use Rattle.reading.specs.State.{is_limited, within}
 use Rattle.reading.specs.Order.{allowed}
 use Rattle.reading.specs.Step.{before_ending, with_ending, next_for, judged_first}

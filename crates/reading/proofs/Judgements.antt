@@ -21,8 +21,8 @@ use Rattle.record.specs.Faults.{fields_of, maxima_fault, fault_of, other_fault}
 use Rattle.record.specs.Read.{transaction_for, transaction_of, values_of}
 use Rattle.record.specs.declared.Before.{Before}
 use Rattle.record.specs.declared.Batch.{Batch}
-use Rattle.record.specs.declared.Fault.{Fault}
-use Rattle.record.specs.declared.TransactionRead.{TransactionRead}
+use Rattle.record.specs.Faults.{Fault}
+use Rattle.record.specs.Read.{TransactionRead}
 use Rattle.record.proofs.Reading.{valued}
 use Rattle.format.proofs.Every.{every}
 use Rattle.record.proofs.BatchFaults.{header_bounded, identified_bounded}

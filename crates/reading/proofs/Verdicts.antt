@@ -18,7 +18,7 @@ use Rattle.format.specs.declared.Cut.{Cut}
 use Rattle.format.proofs.Every.{every}
 use Rattle.record.specs.Kinds.{is_batch_trailer, code_of}
 use Rattle.record.specs.Faults.{fields_of, fault_of}
-use Rattle.record.specs.declared.Fault.{Fault}
+use Rattle.record.specs.Faults.{Fault}
 use Rattle.reading.specs.State.{within}
 use Rattle.reading.specs.Order.{allowed}
 use Rattle.reading.specs.Step.{with_batch, next_for, refused, taken, judged_as, judged_kind, judged_code, judged_line, taken_with, with_cut, is_done, judged_first}

@@ -17,7 +17,7 @@ use Rattle.record.specs.declared.Before.{Before}
 use Rattle.record.specs.declared.Batch.{Batch}
 use Rattle.record.specs.declared.Totals.{Totals}
 use Rattle.record.specs.declared.ClosedBatch.{ClosedBatch}
-use Rattle.record.specs.declared.Fault.{Fault}
+use Rattle.record.specs.Faults.{Fault}
 use Rattle.record.specs.declared.TransactionFields.{TransactionFields}
 use Rattle.record.specs.declared.Record.TheVariants.{Nothing}
 use Rattle.reading.specs.State.{no_item, within}

@@ -19,7 +19,7 @@ use Rattle.format.specs.declared.Kind.TheVariants.{FileHeader, BatchHeaderB, Bat
 use Rattle.format.specs.declared.Group.{Group}
 use Rattle.field.specs.Rows.{Row, row, part_at, first_answer, field_answer, rows_at, check_rows, first_or}
 use Rattle.field.proofs.Rows.{rows_passed}
-use Rattle.record.specs.declared.Fault.{Fault}
+use Rattle.record.specs.Faults.{Fault}
 use Rattle.record.specs.declared.Before.{Before}
 use Rattle.record.specs.declared.Batch.{Batch}
 use Rattle.record.specs.Faults.{fault_at, no_fault, first_fault, fields_of, fields_fault, known_group, tests_for, maxima_for, fault_of, other_fault, header_fault}
@@ -29,13 +29,6 @@ use denote.Enum.Declared.{tag_of}
 use mathlib.Core.Logic.{◌⊎◌, inl, inr}
 use lib.ListN.{get_or}
 use borrow.Author.Tests.{eqb-false}
-
--- the last row of a chain
-pub last_row : {x : Fault} {r : ℕ} (c n : ℕ) → r ≡ n → x ≡ first_fault (row c r ∷ []) → x ≡ first_or fault_at (row c n ∷ []) no_fault
-unfolding first_fault
-last_row c n e p = p ∙ ap (λ m. first_or fault_at (row c m ∷ []) no_fault) e
-
-pub ruleset ends = (last_row, rows_passed)
 
 -- ## What a chain of rows comes to
 

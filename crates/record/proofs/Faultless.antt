@@ -20,7 +20,7 @@ use Rattle.field.proofs.Numerics.{Numbered}
 use Rattle.record.specs.Faults.{fault_at, no_fault, first_fault, fields_of, known_group, tests_for, maxima_for, fault_of}
 use Rattle.record.specs.declared.Before.{Before}
 use Rattle.record.specs.declared.Batch.{Batch}
-use Rattle.record.specs.declared.Fault.{Fault}
+use Rattle.record.specs.Faults.{Fault}
 use Rattle.record.proofs.Reading.{is_formed}
 
 -- ## Every test has an answer

@@ -14,11 +14,8 @@ use Rattle.machine.proofs.Base.{and_first, and_second}
 use Rattle.format.specs.Fields.{filled}
 use Rattle.format.specs.Rules.{is_identification, is_of_day}
 use Rattle.format.specs.Tests.{date_tests, identification_tests}
-use Rattle.field.specs.Leaf.{Digits}
-use Rattle.field.specs.Leaf.{Numeric}
 use Rattle.field.specs.Rows.{field_answer}
-use Rattle.field.specs.Leaf.{digits_of, numeric_of}
-use Rattle.field.proofs.Rows.{of_value}
+use Rattle.field.specs.Leaf.{digits_of}
 
 -- ## The identification
 
@@ -34,11 +31,6 @@ digits_front : (n : ℕ) (l : List ℕ) → all is_digit l ≡ true → all is_d
 digits_front zero l h = refl
 digits_front (suc n) [] h = refl
 digits_front (suc n) (c ∷ l) h = rw (and_first (is_digit c) (all is_digit l) h) (digits_front n l (and_second (is_digit c) (all is_digit l) h))
-
--- digits that a call read
-digits_value : {d : Digits} (l : List ℕ) → leb (length l) 18 ≡ true → all is_digit l ≡ true → d ≡ digits_of l → d.value ≡ value_of l
-unfolding digits_of pick
-digits_value l h k e = ap (λ (x : Digits). x.value) e ∙ rw (h, k)
 
 module _ {p : List ℕ} {d : Bool} (l : List ℕ) (i : p ≡ take 4 (drop 24 l)) (e : d ≡ all is_digit p) where
   pub no_digits_lem : d ≡ false → is_identification (take 4 (drop 24 l)) ≡ false
@@ -59,15 +51,15 @@ module _ {p : List ℕ} {d : Bool} (l : List ℕ) (i : p ≡ take 4 (drop 24 l))
     pub counted : {q : List ℕ} {z : Bool} → q ≡ take 2 (drop 26 l) → z ≡ same q (48 ∷ 48 ∷ []) → z ≡ false → is_identification (take 4 (drop 24 l)) ≡ true
     counted j f k = counter j f k
 
-    pub of_day : {t : Digits} {v : Bool} (created : ℕ) → t ≡ digits_of (take 2 (drop 24 l)) → eqb t.value (created / 10000) ≡ v → is_of_day created (take 4 (drop 24 l)) ≡ v
-    unfolding is_of_day
+    pub of_day : {t : ℕ} {v : Bool} (created : ℕ) → t ≡ (digits_of (take 2 (drop 24 l))).value → eqb t (created / 10000) ≡ v → is_of_day created (take 4 (drop 24 l)) ≡ v
+    unfolding is_of_day digits_of pick
     of_day created j k =
         let f : take 2 (take 4 (drop 24 l)) ≡ take 2 (drop 24 l) = take-take 2 4 (drop 24 l) (omega arith) in
         let n : leb (length (take 2 (drop 24 l))) 18 ≡ true = le-leb (length (take 2 (drop 24 l))) 18 (rw length-take (omega arith)) in
         let a : all is_digit (take 2 (drop 24 l)) ≡ true = ap (all is_digit) (sym f) ∙ digits_front 2 (take 4 (drop 24 l)) are_digits in
-        ap (λ m. eqb m (created / 10000)) (ap value_of f ∙ sym (digits_value (take 2 (drop 24 l)) n a j)) ∙ k
+        ap (λ m. eqb m (created / 10000)) (ap value_of f ∙ sym (j ∙ rw (n, a))) ∙ k
 
 -- the row, with the creation date as it stands
-pub identification_row : {r : Numeric} {n : ℕ} (l t : List ℕ) → r ≡ numeric_of date_tests l → r.number ≡ 0
-    → n ≡ field_answer (filled 4) (identification_tests r.value t) t → n ≡ field_answer (filled 4) (identification_tests (value_of l) t) t
-identification_row l t e z h = h ∙ ap (λ v. field_answer (filled 4) (identification_tests v t) t) (of_value date_tests l e z)
+pub identification_row : {created n : ℕ} (l t : List ℕ) → created ≡ value_of l
+    → n ≡ field_answer (filled 4) (identification_tests created t) t → n ≡ field_answer (filled 4) (identification_tests (value_of l) t) t
+identification_row l t e h = h ∙ ap (λ v. field_answer (filled 4) (identification_tests v t) t) e

@@ -1,6 +1,6 @@
 -- The first fault of a transaction, from what calls answered of its fields, and a batch's maxima. Assumes nothing.
-use Rattle.std.specs.Prelude.{Some, None}
-use Prim.Native.Nat.{ℕ, ◌+◌, ◌-◌, ◌<◌, ◌≤◌, zero-le}
+use Rattle.std.specs.Prelude.{Some, None, Result}
+use Prim.Native.Nat.{ℕ, ◌+◌, ◌-◌, ◌<◌, ◌≤◌, zero-le, min}
 use mathlib.Core.Path.{◌≡◌, refl, sym, ap, ap₂, ◌∙◌}
 use mathlib.Core.List.{List, [], ◌∷◌}
 use mathlib.Core.Bool.{Bool, true, false}
@@ -12,24 +12,24 @@ use lib.Dec.{eqb, leb, ltb}
 use Rattle.machine.specs.Lists.{pick}
 use Rattle.machine.specs.Digits.{value_of}
 use Rattle.format.specs.Fields.{Field, numeric, filled, filler, width, well_formed}
-use Rattle.format.specs.Answers.{above_maximum}
+use Rattle.format.specs.Answers.{above_maximum, number_in}
+use Rattle.format.specs.declared.Refusal.{Refusal}
 use Rattle.format.specs.Records.{layout, type, amount}
 use Rattle.format.specs.Rules.{max_amount, max_total, max_items, max_account, same_group, type_of, is_type, is_unchecked_type, TypeRead}
 use Rattle.format.specs.Tests.{Tests, type_tests, amount_tests, party_tests, payer_tests, beneficiary_tests, transaction_tests}
 use Rattle.format.specs.declared.Kind.TheVariants.{Transaction}
 use Rattle.format.specs.declared.Group.{Group}
 use Rattle.format.specs.declared.Group.TheVariants.{Payments, Debits}
-use Rattle.field.specs.Leaf.{Numeric}
 use Rattle.field.specs.Rows.{Row, row, part_at, field_answer, rows_at, check_rows, first_or}
-use Rattle.field.specs.Leaf.{numeric_of}
-use Rattle.field.proofs.Rows.{row_next, row_none, of_row, of_value}
-use Rattle.record.specs.declared.Fault.{Fault}
+use Rattle.field.specs.Leaf.{numeric_of, numeric_read}
+use Rattle.record.proofs.Columns.{number_row}
+use Rattle.record.specs.Faults.{Fault}
 use Rattle.record.specs.declared.Before.{Before}
 use Rattle.record.specs.declared.Batch.{Batch}
 use Rattle.record.specs.declared.TransactionFields.{TransactionFields}
-use Rattle.record.specs.declared.TransactionRead.{TransactionRead}
+use Rattle.record.specs.Read.{TransactionRead}
 use Rattle.record.specs.Faults.{fault_at, no_fault, first_fault, fields_of, maxima_for, fault_of, maxima_fault}
-use Rattle.record.specs.Read.{transaction_for, refused_transaction, taken_transaction, transaction_of}
+use Rattle.record.specs.Read.{transaction_for, refused_transaction, transaction_of}
 use Rattle.record.proofs.Faulting.{rows_all, no_faults, in_range_lem}
 
 -- ## A batch's maxima
@@ -40,56 +40,40 @@ module _ {x : Fault} (b : Batch) (next : ℕ) where
   too_many h e = rw (le-ltb b.items max_items h) e
 
   module _ (k : b.items < max_items) where
-    pub too_much : max_total < next → x ≡ fault_at 10 above_maximum → x ≡ maxima_fault b next
-    unfolding maxima_fault first_fault first_or pick
-    too_much h e = let s : max_total < b.total + next = omega arith in rw (lt-ltb b.items max_items k, lt-leb (b.total + next) max_total s) e
+    -- the sum, as far as a u64 can tell it
+    module _ {sum : ℕ} (s : sum ≡ min (b.total + next) 18446744073709551615) where
+      pub too_much : max_total < sum → x ≡ fault_at 10 above_maximum → x ≡ maxima_fault b next
+      unfolding maxima_fault first_fault first_or pick
+      too_much h e = let a : max_total < b.total + next = by h s in rw (lt-ltb b.items max_items k, lt-leb (b.total + next) max_total a) e
+        where
+          by : {n : ℕ} → max_total < n → n ≡ min (b.total + next) 18446744073709551615 → max_total < b.total + next
+          by h s = omega arith
 
-    pub much_in_all : next ≤ max_total → max_total - next < b.total → x ≡ fault_at 10 above_maximum → x ≡ maxima_fault b next
-    unfolding maxima_fault first_fault first_or pick
-    much_in_all l h e = let s : max_total < b.total + next = omega arith in rw (lt-ltb b.items max_items k, lt-leb (b.total + next) max_total s) e
-
-    pub within_maxima : next ≤ max_total → b.total ≤ max_total - next → x ≡ no_fault → x ≡ maxima_fault b next
-    unfolding maxima_fault first_fault first_or pick
-    within_maxima l h e = let s : b.total + next ≤ max_total = omega arith in rw (lt-ltb b.items max_items k, le-leb (b.total + next) max_total s) e
-
-pub ruleset maxima = (too_many, too_much, much_in_all, within_maxima, rules)
-
-pub below : {a b : ℕ} → a < b → a ≤ b
-below h = omega arith
+      pub within_maxima : sum ≤ max_total → x ≡ no_fault → x ≡ maxima_fault b next
+      unfolding maxima_fault first_fault first_or pick
+      within_maxima h e = let a : b.total + next ≤ max_total = by h s in rw (lt-ltb b.items max_items k, le-leb (b.total + next) max_total a) e
+        where
+          by : {n : ℕ} → n ≤ max_total → n ≡ min (b.total + next) 18446744073709551615 → b.total + next ≤ max_total
+          by h s = omega arith
 
 -- ## A transaction
 
 pub type_row : {t : TypeRead} {n : ℕ} (g : Group) (l : List ℕ) → t ≡ type_of l → n ≡ field_answer (filled 4) (type_tests g t) l → n ≡ field_answer (filled 4) (type_tests g (type_of l)) l
 type_row g l e h = h ∙ ap (λ t. field_answer (filled 4) (type_tests g t) l) e
 
-pub party_via : {r : Numeric} {m u : Bool} (n w : Bool) (own : ℕ) (l : List ℕ) → m ≡ n → u ≡ w → r ≡ numeric_of (party_tests m own u) l → r ≡ numeric_of (party_tests n own w) l
-party_via n w own l e f h = h ∙ ap₂ (λ m u. numeric_of (party_tests m own u) l) e f
-
 -- by the type that a call read
-pub party_row : {t : TypeRead} {r : Numeric} (mine : Bool) (own : ℕ) (k m : List ℕ) → t ≡ type_of k → r ≡ numeric_of (party_tests mine own (is_unchecked_type t)) (take 10 m)
-    → r.number ≡ field_answer (numeric 10) (party_tests mine own (is_unchecked_type (type_of k)) (value_of (take 10 m))) (take 10 m)
-party_row mine own k m e h = of_row (party_tests mine own (is_unchecked_type (type_of k))) 10 m (h ∙ ap (λ t. numeric_of (party_tests mine own (is_unchecked_type t)) (take 10 m)) e) refl refl
+pub party_row : {t : TypeRead} (r : Result ℕ Refusal) (mine : Bool) (own : ℕ) (k m : List ℕ) → t ≡ type_of k → numeric_read r ≡ numeric_of (party_tests mine own (is_unchecked_type t)) (take 10 m)
+    → number_in r ≡ field_answer (numeric 10) (party_tests mine own (is_unchecked_type (type_of k)) (value_of (take 10 m))) (take 10 m)
+party_row r mine own k m e h = number_row r (party_tests mine own (is_unchecked_type (type_of k))) 10 m (h ∙ ap (λ t. numeric_of (party_tests mine own (is_unchecked_type t)) (take 10 m)) e) refl refl
 
--- where no row has a number
-pub all_taken : {x : TransactionRead} {t : TypeRead} {kind rest : ℕ} {amount payer beneficiary : Numeric} (g : Group) (own : ℕ) (l : List ℕ)
-    → x ≡ taken_transaction t amount.value payer.value beneficiary.value
-    → t ≡ type_of (take 4 (drop 5 l)) → kind ≡ field_answer (filled 4) (type_tests g t) (take 4 (drop 5 l)) → kind ≡ 0
-    → amount ≡ numeric_of amount_tests (take 12 (drop 9 l)) → amount.number ≡ 0
-    → payer ≡ numeric_of (payer_tests g own t) (take 10 (drop 21 l)) → payer.number ≡ 0
-    → beneficiary ≡ numeric_of (beneficiary_tests g own t) (take 10 (drop 31 l)) → beneficiary.number ≡ 0
-    → rest ≡ field_answer (filler 9) [] (take 9 (drop 41 l)) → rest ≡ 0
-    → x ≡ transaction_of g own l
-unfolding transaction_of
-all_taken {t = y} g own l h t k k0 a a0 p p0 b b0 f f0 =
-    let va = of_value amount_tests (take 12 (drop 9 l)) a a0 in
-    let vp = of_value (payer_tests g own y) (take 10 (drop 21 l)) p p0 in
-    let vb = of_value (beneficiary_tests g own y) (take 10 (drop 31 l)) b b0 in
-    row_next _ _ _ _ _ (type_row g (take 4 (drop 5 l)) t k) k0
-    (row_next _ _ _ _ _ (of_row amount_tests 12 (drop 9 l) a refl refl) a0
-    (row_next _ _ _ _ _ (party_row (same_group Payments g) own (take 4 (drop 5 l)) (drop 21 l) t p) p0
-    (row_next _ _ _ _ _ (party_row (same_group Debits g) own (take 4 (drop 5 l)) (drop 31 l) t b) b0
-    (row_next _ _ _ _ _ f f0
-    (row_none _ _ (h ∙ rw (t, va, vp, vb)))))))
+abbrev good : List ℕ → TransactionRead
+good xs = record { number = 0; column = 0; read = transaction_for (fields_of Transaction xs) }
+
+-- what was read where no row has a number
+pub taken : {t : TypeRead} {amount payer beneficiary : ℕ} (l : List ℕ) → t ≡ type_of (take 4 (drop 5 l)) → amount ≡ value_of (take 12 (drop 9 l)) → payer ≡ value_of (take 10 (drop 21 l)) → beneficiary ≡ value_of (take 10 (drop 31 l))
+    → ◌≡◌ {A = TransactionRead} (record { number = 0; column = 0; read = record { kind = t; amount = amount; payer = payer; beneficiary = beneficiary } }) (first_or refused_transaction [] (good l))
+unfolding first_or
+taken l t a p b = rw (t, a, p, b)
 
 -- ## Rows and what follows them
 
@@ -113,9 +97,6 @@ module _ (good : TransactionRead) (z : good.number ≡ 0) where
   -- where no row has a number, it is what was read
   is_good : (R : List Row) → (first_or refused_transaction R good).number ≡ 0 → first_or refused_transaction R good ≡ good
   is_good R = rows_all (λ (r : TransactionRead). r.number ≡ 0 → r ≡ good) refused_transaction good R (λ c n z e. absurd (z e)) (λ z e. refl)
-
-abbrev good : List ℕ → TransactionRead
-good xs = record { number = 0; column = 0; read = transaction_for (fields_of Transaction xs) }
 
 judged : (p : Before) (b : Batch) (xs : List ℕ) → fault_of p b Transaction xs ≡ pick (eqb (transaction_of p.group b.account xs).number 0) (maxima_fault b (amount (fields_of Transaction xs))) (fault_at (transaction_of p.group b.account xs).column (transaction_of p.group b.account xs).number)
 unfolding fault_of maxima_fault first_fault transaction_of

@@ -1,5 +1,6 @@
 pub mod Typing
 pub mod Reading
+pub mod Columns
 pub mod Faulting
 pub mod FileFaults
 pub mod BatchFaults

@@ -1,5 +1,6 @@
 -- The record of an accepted line, and its text. Assumes nothing.
-use Rattle.std.specs.Prelude.{Some}
+use Rattle.std.specs.Prelude.{Some, Result, Ok, Err}
+use Rattle.std.specs.Result.{result_unwrap_or}
 use Prim.Native.Nat.{ℕ, ◌+◌, ◌-◌, ◌≤◌}
 use mathlib.Core.Path.{◌≡◌, refl, sym, ap, ◌∙◌}
 use mathlib.Core.List.{List, [], ◌∷◌}
@@ -19,13 +20,15 @@ use Rattle.format.specs.declared.Kind.{Kind}
 use Rattle.format.specs.declared.Kind.TheVariants.{Transaction}
 use Rattle.format.specs.declared.TransactionType.{TransactionType}
 use Rattle.format.proofs.Every.{every}
-use Rattle.field.specs.Leaf.{Digits}
+use Rattle.field.specs.Leaf.{Digits, Numeric, no_tests, numeric_of, numeric_read}
+use Rattle.field.proofs.Results.{digits_alone}
+use Rattle.format.specs.declared.Refusal.{Refusal}
 use Rattle.field.specs.Rows.{Row, part_at, first_answer, field_answer, rows_at, check_rows, fields_at, first_or}
 use Rattle.field.specs.Leaf.{digits_of}
 use Rattle.field.proofs.Numerics.{digits_are}
 use Rattle.record.specs.Faults.{fault_at, no_fault, first_fault, fields_of, tests_for, maxima_for, fault_of}
 use Rattle.record.specs.Read.{transaction_for, transaction_record, record_for, no_text, padded, text_part, text_for, value_in, values_at, values_of, header_for}
-use Rattle.record.specs.declared.Fault.{Fault}
+use Rattle.record.specs.Faults.{Fault}
 use Rattle.record.specs.declared.Before.{Before}
 use Rattle.record.specs.declared.Batch.{Batch}
 use Rattle.record.specs.declared.read.Part.{Part}
@@ -35,8 +38,12 @@ use Rattle.record.specs.declared.Record.TheVariants as the
 
 -- ## Records from what calls answered
 
-pub value_of : {d : Digits} (l : List ℕ) → d ≡ digits_of l → d.value ≡ (digits_of l).value
-value_of l e = ap (λ (x : Digits). x.value) e
+pub value_or : {v : ℕ} (g : Result ℕ Refusal) (l : List ℕ) → numeric_read g ≡ numeric_of no_tests l → v ≡ result_unwrap_or g 0 → v ≡ (digits_of l).value
+value_or g l e h = h ∙ value_is g ∙ ap (λ (n : Numeric). n.value) (e ∙ digits_alone l)
+  where
+    value_is : (g : Result ℕ Refusal) → result_unwrap_or g 0 ≡ (numeric_read g).value
+    value_is (Ok v) = refl
+    value_is (Err r) = refl
 
 pub transaction_made : {k l : TypeRead} {a p b a' p' b' : ℕ} → k ≡ l → a ≡ a' → p ≡ p' → b ≡ b'
     → ◌≡◌ {A = TransactionFields} (record { kind = k; amount = a; payer = p; beneficiary = b }) (record { kind = l; amount = a'; payer = p'; beneficiary = b' })

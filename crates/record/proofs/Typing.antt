@@ -1,13 +1,16 @@
 -- Groups and transaction types. Assumes nothing.
 use Rattle.std.specs.Prelude.{Some, None}
 use Prim.Native.Nat.{ℕ}
-use mathlib.Core.Path.{◌≡◌, sym, ap, ◌∙◌}
+use mathlib.Core.Path.{◌≡◌, refl, sym, ap, ◌∙◌}
 use mathlib.Core.List.{List}
-use mathlib.Core.Bool.{Bool, true, false}
+use mathlib.Core.Bool.{Bool, true, false, not}
 use Rattle.machine.specs.Lists.{pick, same}
 use Rattle.format.specs.Rules.{group_text, is_group, same_group, type_group, is_unchecked, is_unchecked_type, TypeRead}
 use Rattle.format.specs.Tests.{group_tests, type_tests}
+use denote.Enum.Bare.{sameb}
+use Rattle.format.specs.contracts.Group.{the_type}
 use Rattle.format.specs.declared.Group.{Group}
+use Rattle.format.specs.declared.Group.TheVariants.{Payments, Debits}
 use Rattle.format.specs.declared.TransactionType.{TransactionType}
 use Rattle.field.specs.Rows.{first_answer}
 use Rattle.record.specs.declared.Before.{Before}
@@ -19,8 +22,13 @@ of_case f e h = rw e h
 
 -- ## Groups
 
-pub same_case : {a b g h : Group} {x : Bool} → a ≡ g → b ≡ h → x ≡ same_group g h → x ≡ same_group a b
-same_case e f h = rw (e, f) h
+pub not_known : (b : Bool) → not b ≡ true → b ≡ false
+not_known false e = refl
+not_known true e = sym e
+
+pub is_known : (b : Bool) → not b ≡ false → b ≡ true
+is_known true e = refl
+is_known false e = sym e
 
 -- a group, and the one before where that is known
 abbrev group_answer : Before → List ℕ → ℕ
@@ -54,7 +62,16 @@ module _ {p : List ℕ} {a : Bool} (l : List ℕ) (d : p ≡ l) (e : a ≡ is_gr
 
 -- ## Types
 
-module _ {t : TypeRead} {y : TransactionType} {h : Group} {b : Bool} (g : Group) (e : t ≡ Some y) (k : h ≡ type_group y) (s : b ≡ same_group g h) where
+same_is : (g h : Group) → sameb the_type g h ≡ same_group g h
+same_is Payments Payments = refl
+same_is Payments Debits = refl
+same_is Debits Payments = refl
+same_is Debits Debits = refl
+
+module _ {t : TypeRead} {y : TransactionType} {h : Group} {b : Bool} (g : Group) (e : t ≡ Some y) (k : h ≡ type_group y) (i : b ≡ sameb the_type g h) where
+  s : b ≡ same_group g h
+  s = i ∙ same_is g h
+
   pub type_right : b ≡ true → 0 ≡ first_answer (type_tests g t)
   unfolding pick
   type_right v = let q : same_group g (type_group y) ≡ true = rw (← k) (sym s ∙ v) in rw (e, q)

@@ -1,9 +1,11 @@
 -- A record's first fault: the field furthest left, in one field the lowest number, then the batch's maxima (01, 'Order').
-use Rattle.std.specs.Prelude.{ℕ, take, drop, List, [], ◌∷◌, Bool, true, false}
+use Rattle.std.specs.Prelude.{ℕ, take, drop, List, [], ◌∷◌, Bool, true, false, Result, Ok, Err}
 use Rattle.std.proofs.Math.Option.{Option, none, some}
 use Rattle.machine.specs.Lists.{pick}
 use Rattle.format.specs.Records.{layout, Fields, unidentified, amount}
+use Rattle.format.specs.Answers.{number_of}
 use Rattle.format.specs.Cutting.{no_ending}
+use Rattle.format.specs.declared.Refusal.{Refusal}
 use Rattle.format.specs.Tests.{Tests, untested, Check, file_header_tests, batch_header_tests, ordering_party_tests, transaction_tests, batch_trailer_tests, batch_maxima}
 use Rattle.format.specs.declared.Kind.{Kind}
 use Rattle.format.specs.declared.Kind.TheVariants.{FileHeader, BatchHeaderB, BatchHeaderC, FixedDescription, OrderingParty, Transaction, NamePayer, CityPayer, PaymentReference, Description, NameBeneficiary, CityBeneficiary, BatchTrailer, FileTrailer}
@@ -12,16 +14,30 @@ use Rattle.format.specs.declared.Group.TheVariants.{Payments}
 use Rattle.field.specs.Rows.{Row, row, part_at, field_answer, rows_at, check_rows, fields_at, first_or}
 use Rattle.format.specs.Fields.{filled, filler}
 use Rattle.record.specs.Kinds.{is_transaction}
-use Rattle.record.specs.declared.Fault.{Fault}
+use Rattle.record.specs.declared.Fault as code
 use Rattle.record.specs.declared.Before.{Before}
 use Rattle.record.specs.declared.Batch.{Batch}
 use Rattle.record.specs.declared.Totals.{Totals}
+
+-- what is wrong in a line: the answer's number and its column, 0 and 0 where nothing is
+pub record Fault : Type 0 where
+  pub number : ℕ
+  pub column : ℕ
 
 abbrev pub fault_at : ℕ → ℕ → Fault
 fault_at column number = record { number = number; column = column }
 
 abbrev pub no_fault : Fault
 no_fault = fault_at 0 0
+
+-- what functions hand out, in these words
+abbrev pub fault_read : {A : Type 0} → Result A code.Fault → Fault
+fault_read (Ok x) = no_fault
+fault_read (Err f) = fault_at f.column (number_of f.refusal)
+
+abbrev pub at_column : {A : Type 0} → ℕ → Result A Refusal → Result A code.Fault
+at_column column (Ok x) = Ok x
+at_column column (Err r) = Err (record { refusal = r; column = column })
 
 unfoldable pub first_fault : List Row → Fault
 first_fault rows = first_or fault_at rows no_fault

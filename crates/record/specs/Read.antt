@@ -1,9 +1,10 @@
 -- The record that is handed out, and its text.
-use Rattle.std.specs.Prelude.{ℕ, ◌+◌, List, [], ◌∷◌, Bool, true, false, Some, None}
+use Rattle.std.specs.Prelude.{Result, Ok, Err, ℕ, ◌+◌, List, [], ◌∷◌, Bool, true, false, Some, None}
 use Rattle.machine.specs.Lists.{same, spaces, put_in}
 use Rattle.format.specs.Fields.{Field, numeric, filled, optional, free, filler, width, Value, Values}
 use Rattle.format.specs.Records.{layout, Fields, creation_date, sender, identification, duplicate_code, group, ordering_account, sequence, batch_identification, unidentified, name_code, desired_date, party_name, test_code, type, amount, payer, beneficiary, total_amount, total_accounts, items}
 use Rattle.format.specs.Rules.{test_text, group_of, type_of, TypeRead}
+use Rattle.format.specs.Answers.{number_of}
 use Rattle.format.specs.Tests.{transaction_tests}
 use Rattle.format.specs.declared.Kind.{Kind}
 use Rattle.format.specs.declared.Kind.TheVariants.{FileHeader, BatchHeaderB, BatchHeaderC, FixedDescription, OrderingParty, Transaction, NamePayer, CityPayer, PaymentReference, Description, NameBeneficiary, CityBeneficiary, BatchTrailer, FileTrailer}
@@ -13,7 +14,7 @@ use Rattle.field.specs.Leaf.{digits_of}
 use Rattle.record.specs.Faults.{fields_of}
 use Rattle.record.specs.declared.read.Part.{Part}
 use Rattle.record.specs.declared.TransactionFields.{TransactionFields}
-use Rattle.record.specs.declared.TransactionRead.{TransactionRead}
+use Rattle.record.specs.declared.Fault as code
 use Rattle.record.specs.declared.Record.{Record}
 use Rattle.record.specs.declared.Record.TheVariants as the
 
@@ -22,6 +23,12 @@ use Rattle.record.specs.declared.Record.TheVariants as the
 abbrev pub transaction_for : Fields Transaction → TransactionFields
 transaction_for x = record { kind = type_of (type x); amount = amount x; payer = payer x; beneficiary = beneficiary x }
 
+-- the fields of a transaction, or what is wrong in them first, with no type and zeros
+pub record TransactionRead : Type 0 where
+  pub number : ℕ
+  pub column : ℕ
+  pub read : TransactionFields
+
 -- 'With a refusal no fields are handed out: numbers are zero'
 abbrev pub no_transaction : TransactionFields
 no_transaction = record { kind = None; amount = 0; payer = 0; beneficiary = 0 }
@@ -29,8 +36,10 @@ no_transaction = record { kind = None; amount = 0; payer = 0; beneficiary = 0 }
 abbrev pub refused_transaction : ℕ → ℕ → TransactionRead
 refused_transaction column number = record { number = number; column = column; read = no_transaction }
 
-abbrev pub taken_transaction : TypeRead → ℕ → ℕ → ℕ → TransactionRead
-taken_transaction t n p b = record { number = 0; column = 0; read = record { kind = t; amount = n; payer = p; beneficiary = b } }
+-- what a function hands out, in these words
+abbrev pub transaction_read : Result TransactionFields code.Fault → TransactionRead
+transaction_read (Ok x) = record { number = 0; column = 0; read = x }
+transaction_read (Err f) = refused_transaction f.column (number_of f.refusal)
 
 -- the fields of a transaction, and what is wrong in them first
 unfoldable pub transaction_of : Group → ℕ → List ℕ → TransactionRead

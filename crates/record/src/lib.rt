@@ -4,17 +4,17 @@
 ghost use Rattle.std.specs.Prelude.{◌≡◌};
 ghost use Rattle.record.specs.Faults.{nothing_before, after_header, empty_batch, no_totals};
 
-use format::{Group, LineEnd, TransactionType};
+use format::{Group, LineEnd, Refusal, TransactionType};
 
 pub mod faults;
 pub mod kinds;
 pub mod read;
 pub mod types;
 
-// What is wrong in a line: the answer's number and its column, 0 and 0 where nothing is.
+// What is wrong in a line, and the column.
 #[derive(Clone, Copy)]
 pub struct Fault {
-    pub number: u8,
+    pub refusal: Refusal,
     pub column: u8,
 }
 
@@ -139,14 +139,6 @@ pub struct TransactionFields {
     pub amount: u64,
     pub payer: u64,
     pub beneficiary: u64,
-}
-
-// The fields of a transaction, or what is wrong in them first, with no type and zeros.
-#[derive(Clone, Copy)]
-pub struct TransactionRead {
-    pub number: u8,
-    pub column: u8,
-    pub read: TransactionFields,
 }
 
 // A record of each kind with its numbers; its text stands beside it.

@@ -15,8 +15,7 @@ use format::{Kind, TransactionType, codes};
 pub fn value_at(line: &[u8], at: usize, width: usize) -> u64
     ensures { result ≡ (digits_of (take width (drop at line.now))).value }
 {
-    let d = digits_at(line, at, width);
-    d.value
+    digits_at(line, at, width).unwrap_or(0)
 }
 
 pub fn transaction_at(line: &[u8]) -> TransactionFields

@@ -5,12 +5,13 @@ ghost use Rattle.format.specs.Rules.{group_text, is_group, group_of, same_group}
 ghost use Rattle.format.specs.Rules.{type_text, type_of, type_group, is_unchecked, is_unchecked_type};
 ghost use Rattle.format.specs.Tests.{group_tests, type_tests};
 ghost use Rattle.field.specs.Rows.{part_at, answer_at, first_answer, field_answer};
+ghost use Rattle.format.specs.Answers.{number_in};
 ghost use Rattle.record.specs.Faults.{known_group};
 
 use crate::Before;
 use field::bytes::{is_same, part};
 use field::texts::filled_answer;
-use format::{Group, TransactionType, codes};
+use format::{Group, Refusal, TransactionType, codes};
 
 pub fn group_in(line: &[u8]) -> Group
     ensures { result ≡ group_of (part_at 6 2 line.now) }
@@ -19,21 +20,6 @@ pub fn group_in(line: &[u8]) -> Group
         Group::Payments
     } else {
         Group::Debits
-    }
-}
-
-pub fn is_same_group(a: Group, b: Group) -> bool
-    ensures { result ≡ same_group a b }
-{
-    match a {
-        Group::Payments => match b {
-            Group::Payments => true,
-            Group::Debits => false,
-        },
-        Group::Debits => match b {
-            Group::Payments => false,
-            Group::Debits => true,
-        },
     }
 }
 
@@ -56,28 +42,21 @@ pub fn group_text(group: Group) -> [u8; 2]
 }
 
 // A group, and the one before where that is known.
-pub(crate) fn group_answer(line: &[u8], before: Before) -> u8
-    ensures { result ≡ answer_at 6 (filled 2) (group_tests (known_group before)) line.now }
+pub(crate) fn group_answer(line: &[u8], before: Before) -> Result<(), Refusal>
+    ensures { number_in result ≡ answer_at 6 (filled 2) (group_tests (known_group before)) line.now }
 {
-    let f = filled_answer(line, 5, 2);
-    if f != 0 {
-        return f;
+    filled_answer(line, 5, 2)?;
+    let text = part(line, 5, 2);
+    if !is_group(text) {
+        return Err(Refusal::WrongValue);
     }
-    let s = part(line, 5, 2);
-    if is_group(s) {
-        if before.known {
-            let group = before.group;
-            if is_same(s, &group_text(group)) {
-                0
-            } else {
-                format::DIFFERS
-            }
-        } else {
-            0
-        }
-    } else {
-        format::WRONG_VALUE
+    if !before.known {
+        return Ok(());
     }
+    if is_same(text, &group_text(before.group)) {
+        return Ok(());
+    }
+    Err(Refusal::Differs)
 }
 
 pub fn type_text(kind: TransactionType) -> [u8; 4]
@@ -128,26 +107,23 @@ fn type_group(t: TransactionType) -> Group
     ensures { result ≡ type_group t }
 {
     match t {
-        TransactionType::UncheckedCreditor => Group::Payments,
-        TransactionType::UncheckedSalary => Group::Payments,
-        TransactionType::Creditor => Group::Payments,
-        TransactionType::Salary => Group::Payments,
-        TransactionType::Debit => Group::Debits,
-        TransactionType::UncheckedDebit => Group::Debits,
+        TransactionType::UncheckedCreditor
+        | TransactionType::UncheckedSalary
+        | TransactionType::Creditor
+        | TransactionType::Salary => Group::Payments,
+        TransactionType::Debit | TransactionType::UncheckedDebit => Group::Debits,
     }
 }
 
 fn is_unchecked(t: TransactionType) -> bool
     ensures { result ≡ is_unchecked t }
 {
-    match t {
-        TransactionType::UncheckedCreditor => true,
-        TransactionType::UncheckedSalary => true,
-        TransactionType::Creditor => false,
-        TransactionType::Salary => false,
-        TransactionType::Debit => false,
-        TransactionType::UncheckedDebit => true,
-    }
+    matches!(
+        t,
+        TransactionType::UncheckedCreditor
+            | TransactionType::UncheckedSalary
+            | TransactionType::UncheckedDebit
+    )
 }
 
 // An unchecked type, whose item must have a name record and a seven-digit other party.
@@ -160,26 +136,24 @@ pub fn is_unchecked_type(t: Option<TransactionType>) -> bool
     }
 }
 
-fn type_fault(t: Option<TransactionType>, group: Group) -> u8
-    ensures { result ≡ first_answer (type_tests group t) }
+fn type_fault(t: Option<TransactionType>, group: Group) -> Result<(), Refusal>
+    ensures { number_in result ≡ first_answer (type_tests group t) }
 {
     match t {
-        Some(y) => if is_same_group(group, type_group(y)) {
-            0
-        } else {
-            format::DIFFERS
-        },
-        None => format::WRONG_VALUE,
+        Some(y) if group == type_group(y) => Ok(()),
+        Some(_) => Err(Refusal::Differs),
+        None => Err(Refusal::WrongValue),
     }
 }
 
 // A type of the group; t is what its characters stand for.
-pub(crate) fn type_answer(line: &[u8], t: Option<TransactionType>, group: Group) -> u8
-    ensures { result ≡ field_answer (filled 4) (type_tests group t) (part_at 6 4 line.now) }
+pub(crate) fn type_answer(
+    line: &[u8],
+    t: Option<TransactionType>,
+    group: Group,
+) -> Result<(), Refusal>
+    ensures { number_in result ≡ field_answer (filled 4) (type_tests group t) (part_at 6 4 line.now) }
 {
-    let f = filled_answer(line, 5, 4);
-    if f != 0 {
-        return f;
-    }
+    filled_answer(line, 5, 4)?;
     type_fault(t, group)
 }

@@ -18,7 +18,7 @@ use Rattle.format.proofs.Link.{line_widths}
 use Rattle.field.specs.Rows.{Row, part_at, first_answer, field_answer, rows_at, check_rows, first_or}
 use Rattle.record.specs.Kinds.{code_of}
 use Rattle.record.specs.Faults.{fault_at, no_fault, first_fault, fields_of, tests_for, maxima_for, fault_of}
-use Rattle.record.specs.declared.Fault.{Fault}
+use Rattle.record.specs.Faults.{Fault}
 use Rattle.reading.specs.State.{within}
 use Rattle.reading.specs.Order.{allowed}
 use Rattle.reading.specs.Step.{next_for, refused, taken, judged_as, judged_kind, judged_code, judged_line, with_cut, is_done, judged_first, step_at}

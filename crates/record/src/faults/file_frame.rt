@@ -6,67 +6,48 @@ ghost use Rattle.format.specs.Tests.{untested, file_header_tests};
 ghost use Rattle.format.specs.Tests.{identification_tests};
 ghost use Rattle.format.specs.declared.Kind.TheVariants.{FileHeader, FileTrailer};
 ghost use Rattle.field.specs.Rows.{answer_at};
-ghost use Rattle.record.specs.Faults.{fields_fault};
+ghost use Rattle.format.specs.Answers.{number_in};
+ghost use Rattle.record.specs.Faults.{fault_read, fields_fault};
 
 use crate::Fault;
-use crate::faults::{fault, last};
+use crate::faults::at;
+use crate::read::value_at;
 use field::bytes::{is_digits, is_same, part};
 use field::dates::date;
-use field::numbers::{digits_at, ranged};
+use field::numbers::ranged;
 use field::texts::{exactly_answer, filled_answer, filler_answer};
-use format::codes;
+use format::{Refusal, codes};
 
 // The creation day, then a counter 01 to 99.
-fn identification_answer(line: &[u8], created: u64) -> u8
-    ensures { result ≡ answer_at 25 (filled 4) (identification_tests created) line.now }
+fn identification_answer(line: &[u8], created: u64) -> Result<(), Refusal>
+    ensures { number_in result ≡ answer_at 25 (filled 4) (identification_tests created) line.now }
 {
-    let f = filled_answer(line, 24, 4);
-    if f != 0 {
-        return f;
+    filled_answer(line, 24, 4)?;
+    if !is_digits(part(line, 24, 4)) {
+        return Err(Refusal::WrongValue);
     }
-    if is_digits(part(line, 24, 4)) {
-        if is_same(part(line, 26, 2), &codes::NO_COUNTER) {
-            return format::WRONG_VALUE;
-        }
-        let day = digits_at(line, 24, 2);
-        if day.value == created / 10000 {
-            0
-        } else {
-            format::DIFFERS
-        }
-    } else {
-        format::WRONG_VALUE
+    if is_same(part(line, 26, 2), &codes::NO_COUNTER) {
+        return Err(Refusal::WrongValue);
     }
+    if value_at(line, 24, 2) == created / 10000 {
+        return Ok(());
+    }
+    Err(Refusal::Differs)
 }
 
-pub(crate) fn file_header(line: &[u8]) -> Fault
-    ensures { result ≡ fields_fault FileHeader file_header_tests line.now }
+pub(crate) fn file_header(line: &[u8]) -> Result<(), Fault>
+    ensures { fault_read result ≡ fields_fault FileHeader file_header_tests line.now }
 {
-    let created = date(line, 5);
-    if created.number != 0 {
-        return fault(created.number, 6);
-    }
-    let name = exactly_answer(line, 11, 8, &codes::FILE_NAME);
-    if name != 0 {
-        return fault(name, 12);
-    }
-    let sender = filled_answer(line, 19, 5);
-    if sender != 0 {
-        return fault(sender, 20);
-    }
-    let identification = identification_answer(line, created.value);
-    if identification != 0 {
-        return fault(identification, 25);
-    }
-    let duplicate = ranged(line, 28, 1, 1, 2);
-    if duplicate.number != 0 {
-        return fault(duplicate.number, 29);
-    }
-    last(filler_answer(line, 29, 21), 30)
+    let created = at(6, date(line, 5))?;
+    at(12, exactly_answer(line, 11, 8, &codes::FILE_NAME))?;
+    at(20, filled_answer(line, 19, 5))?;
+    at(25, identification_answer(line, created))?;
+    at(29, ranged(line, 28, 1, 1, 2))?;
+    at(30, filler_answer(line, 29, 21))
 }
 
-pub(crate) fn file_trailer(line: &[u8]) -> Fault
-    ensures { result ≡ fields_fault FileTrailer (λ x. untested (layout FileTrailer)) line.now }
+pub(crate) fn file_trailer(line: &[u8]) -> Result<(), Fault>
+    ensures { fault_read result ≡ fields_fault FileTrailer (λ x. untested (layout FileTrailer)) line.now }
 {
-    last(filler_answer(line, 5, 45), 6)
+    at(6, filler_answer(line, 5, 45))
 }

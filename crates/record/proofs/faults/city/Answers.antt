@@ -1,0 +1,7 @@
+use Rattle.record.specs.Faults.{fields_fault, first_fault}
+use Rattle.record.proofs.Columns.{last_column}
+use Rattle.record.proofs.faults.city.Goals as goal
+
+pub returns : goal.returns
+unfolding fields_fault first_fault
+returns c = search last_column depth 3
