@@ -14,7 +14,7 @@ use Rattle.reading.specs.State.{start_state, within}
 use Rattle.reading.specs.Step.{is_done, refusal_by, ended_at}
 use Rattle.reading.specs.Check.{judged_lines, check_of, read_of, rest_of}
 use Rattle.reading.specs.declared.State.{State}
-use Rattle.reading.specs.declared.Judged.{Judged}
+use Rattle.reading.specs.Step.{Judged}
 use Rattle.reading.specs.declared.FileRead.{FileRead}
 use Rattle.reading.proofs.Limits.{within_line}
 use Rattle.reading.proofs.Answers.{rest_named}

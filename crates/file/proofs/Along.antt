@@ -28,7 +28,7 @@ use Rattle.record.specs.declared.Record.{Record}
 use Rattle.record.proofs.Coding.{one_kind}
 use Rattle.reading.specs.Step.{with_batch, next_for, taken, judged_as, judged_kind, judged_line, judged_first, refusal_by, nothing_read, read_by, step_at}
 use Rattle.reading.specs.declared.State.{State}
-use Rattle.reading.specs.declared.Judged.{Judged}
+use Rattle.reading.specs.Step.{Judged}
 use Rattle.reading.specs.declared.LineRead.{LineRead}
 use Rattle.reading.proofs.Verdicts.{next_line_lem, next_totals, first, refused_next, taken_as, Taken, takes}
 use Rattle.file.specs.Reached.{Reached, at_start, one_step}

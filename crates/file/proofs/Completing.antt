@@ -16,7 +16,7 @@ use Rattle.reading.specs.State.{start_state}
 use Rattle.reading.specs.Step.{refused, is_done, judged_first, refusal_by, ended_at}
 use Rattle.reading.specs.Check.{judged_after, check_of}
 use Rattle.reading.specs.declared.State.{State}
-use Rattle.reading.specs.declared.Judged.{Judged}
+use Rattle.reading.specs.Step.{Judged}
 use Rattle.reading.specs.declared.LineRead.{LineRead}
 use Rattle.reading.proofs.Verdicts.{taken_as, Taken}
 use Rattle.reading.proofs.Running.{first_own, going_on, lines_on}

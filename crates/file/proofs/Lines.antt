@@ -43,7 +43,7 @@ use Rattle.reading.specs.declared.Stage.TheVariants.{Start, Headed, Opened, Orde
 use Rattle.reading.specs.declared.Name.{Name}
 use Rattle.reading.specs.declared.Name.TheVariants.{Unwanted, Due, Read, Past}
 use Rattle.reading.specs.declared.State.{State}
-use Rattle.reading.specs.declared.Judged.{Judged}
+use Rattle.reading.specs.Step.{Judged}
 use Rattle.reading.specs.Order.{allowed}
 use Rattle.reading.specs.Step.{next_for, name_if, paid_batch, refused, taken, judged_by, judged_as, judged_kind, judged_code, judged_line}
 use Rattle.file.proofs.Places.{room_of, item_phase, phase_in, phase_of, context_of, place_of, no_place, its_place}

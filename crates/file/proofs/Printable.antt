@@ -14,7 +14,7 @@ use Rattle.format.proofs.Printable.{record_printable}
 use Rattle.format.specs.Cutting.{cut_of}
 use Rattle.reading.specs.Step.{judged_line, with_cut, judged_first}
 use Rattle.reading.specs.declared.State.{State}
-use Rattle.reading.specs.declared.Judged.{Judged}
+use Rattle.reading.specs.Step.{Judged}
 use Rattle.reading.proofs.Verdicts.{Taken, cut_number}
 use Rattle.file.proofs.Places.{phase_of, context_of, place_of}
 use Rattle.file.proofs.Lines.{Agrees, goes, stops, line_agrees}

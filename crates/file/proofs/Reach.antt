@@ -31,7 +31,7 @@ use Rattle.reading.specs.declared.Stage.TheVariants.{Start, Headed, Opened, Orde
 use Rattle.reading.specs.declared.Name.{Name}
 use Rattle.reading.specs.declared.Name.TheVariants.{Unwanted, Due, Read, Past}
 use Rattle.reading.specs.declared.State.{State}
-use Rattle.reading.specs.declared.Judged.{Judged}
+use Rattle.reading.specs.Step.{Judged}
 use Rattle.reading.proofs.Limits.{within_yes}
 use Rattle.reading.proofs.Verdicts.{next_totals, is_trailer, First, beyond, halted, moved, first}
 use Rattle.reading.proofs.Judgements.{limited_first}

@@ -13,7 +13,7 @@ use Rattle.format.specs.Cutting.{is_open, cut_of}
 use Rattle.reading.specs.State.{within}
 use Rattle.reading.specs.Step.{refused, judged_line, with_cut, is_done, judged_first, read_by, ended_at, step_at}
 use Rattle.reading.specs.declared.State.{State}
-use Rattle.reading.specs.declared.Judged.{Judged}
+use Rattle.reading.specs.Step.{Judged}
 use Rattle.file.specs.Reached.{Reached, at_start, one_step}
 use Rattle.file.proofs.Lines.{of_no_state, Agrees, goes, stops, line_agrees}
 use Rattle.reading.proofs.Verdicts.{cut_number}

@@ -30,7 +30,7 @@ use Rattle.reading.specs.declared.Stage.TheVariants.{Start, Headed, Opened, Orde
 use Rattle.reading.specs.declared.Name.{Name}
 use Rattle.reading.specs.declared.Name.TheVariants.{Unwanted, Due, Read, Past}
 use Rattle.reading.specs.declared.State.{State}
-use Rattle.reading.specs.declared.Judged.{Judged}
+use Rattle.reading.specs.Step.{Judged}
 use Rattle.reading.specs.State.{start_state, are_within, is_limited, within}
 use Rattle.reading.specs.Order.{is_stage}
 use Rattle.reading.specs.Step.{refused, taken, judged_line, taken_with, with_cut, is_done, judged_first, ended_at}

@@ -25,7 +25,7 @@ use Rattle.reading.specs.State.{start_state, are_within, is_limited, within, Bou
 use Rattle.reading.specs.Step.{refused, is_done, judged_first, read_by, ended_at, step_at}
 use Rattle.reading.specs.Check.{judged_after, judged_lines, answer_by, rest_of, check_of, totals_after, totals_of, read_of}
 use Rattle.reading.specs.declared.State.{State}
-use Rattle.reading.specs.declared.Judged.{Judged}
+use Rattle.reading.specs.Step.{Judged}
 use Rattle.reading.specs.declared.LineRead.{LineRead}
 use Rattle.reading.specs.declared.FileRead.{FileRead}
 use Rattle.reading.proofs.Limits.{within_limited}

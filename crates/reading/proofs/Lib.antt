@@ -1,6 +1,5 @@
 pub mod Orders
 pub mod Limits
-pub mod Running
 pub mod Runs
 pub mod Verdicts
 pub mod Endings
@@ -8,3 +7,4 @@ pub mod Answers
 pub mod Slices
 pub mod Moves
 pub mod Judgements
+pub mod Running

@@ -16,7 +16,7 @@ use Rattle.reading.specs.Order.{is_stage}
 use Rattle.reading.specs.Step.{is_done}
 use Rattle.reading.specs.Bounds.{Going, over_by, halt_at}
 use Rattle.reading.specs.declared.Stage.{Stage}
-use Rattle.reading.specs.declared.Stage.TheVariants.{Closed, Done}
+use Rattle.reading.specs.declared.Stage.TheVariants.{Start, Headed, Opened, Ordered, Item, Closed, Done}
 use Rattle.reading.specs.declared.State.{State}
 
 pub bounded_facts : (t : Totals) → are_within t ≡ true → Bounded t
@@ -125,6 +125,18 @@ elsewhere s g l p e c = within_yes s (g.limited (g.totals (ap (λ q. is_stage q 
 pub halt_none : (s : State) → Going s → s.line ≤ 6999369995 → (p : Stage) → s.stage ≡ p → is_stage p Closed ≡ false → is_stage p Done ≡ false → 0 ≡ halt_at s
 unfolding halt_at pick
 halt_none s g l p e c d = rw (elsewhere s g l p e c, e, d)
+
+pub halt_other : (s : State) → Going s → s.line ≤ 6999369995 → (s.stage ≡ Closed → ⊥) → (s.stage ≡ Done → ⊥) → 0 ≡ halt_at s
+halt_other s g l c d = by s.stage refl c d
+  where
+    by : (p : Stage) → s.stage ≡ p → (p ≡ Closed → ⊥) → (p ≡ Done → ⊥) → 0 ≡ halt_at s
+    by Start e c d = halt_none s g l Start e refl refl
+    by Headed e c d = halt_none s g l Headed e refl refl
+    by Opened e c d = halt_none s g l Opened e refl refl
+    by Ordered e c d = halt_none s g l Ordered e refl refl
+    by Item e c d = halt_none s g l Item e refl refl
+    by Closed e c d = absurd (c refl)
+    by Done e c d = absurd (d refl)
 
 pub halt_done : (s : State) → Going s → s.line ≤ 6999369995 → s.stage ≡ Done → 11 ≡ halt_at s
 unfolding halt_at pick

@@ -1,6 +1,6 @@
 -- Lines one after the other, and the line reader over the first. Assumes nothing.
 use Prim.Native.Nat.{ℕ, ◌+◌, ◌-◌, ◌≤◌, ◌<◌}
-use mathlib.Core.Path.{◌≡◌, sym, ap, ◌∙◌}
+use mathlib.Core.Path.{◌≡◌, refl, sym, ap, ◌∙◌}
 use mathlib.Core.List.{List}
 use native.Mathlib.Omega.{arith}
 use borrow.Author.Tests.{eq-eqb, ne_eqb}
@@ -12,10 +12,15 @@ use Rattle.machine.proofs.Base.{drop_rest}
 use Rattle.format.specs.Cutting.{cut_of, next_line, after_next, lines_in}
 use Rattle.format.proofs.Cutting.{cut_bytes, next_fifty, cut_own, whole_long, lines_first, lines_none}
 use Rattle.reading.specs.Bounds.{Going}
-use Rattle.reading.specs.Step.{refused, judged_first}
+use Rattle.std.specs.Prelude.{Result, Some, Ok, Err}
+use Rattle.field.proofs.Results as Results
+use Rattle.record.specs.declared.Fault as code
+use Rattle.reading.specs.declared.Taken as judged
+use Rattle.reading.specs.Step.{refused, judged_first, Last, lines_read, taken_read}
+use Rattle.reading.proofs.Judgements.{going_after}
 use Rattle.reading.specs.Check.{judged_after}
 use Rattle.reading.specs.declared.State.{State}
-use Rattle.reading.specs.declared.Judged.{Judged}
+use Rattle.reading.specs.Step.{Judged}
 use Rattle.reading.proofs.Verdicts.{Taken, takes}
 
 -- the first line is judged by its own bytes alone
@@ -37,14 +42,8 @@ lines_on j xs h = ap (judged_after j) (lines_first xs h) ∙ ap (λ i. going_on 
 pub record Running (start : State) (bytes : List ℕ) (last : Judged) (at : ℕ) : Type 0 where
   pub rest : judged_after last (lines_in (drop at bytes)) ≡ judged_after (refused start 0 0) (lines_in bytes)
 
-pub run_none : {j : Judged} (start : State) (bytes : List ℕ) → j ≡ refused start 0 0 → Running j.next bytes j 0
-run_none start bytes e = record { rest = rw e }
-
-pub run_from : {x j : Judged} (start : State) (bytes : List ℕ) → j ≡ refused start 0 0 → x ≡ judged_after (refused j.next 0 0) (lines_in bytes) → x ≡ judged_after (refused start 0 0) (lines_in bytes)
-run_from start bytes e h = h ∙ ap (λ (i : Judged). judged_after (refused i.next 0 0) (lines_in bytes)) e
-
-pub going_start : {j : Judged} (start : State) → j ≡ refused start 0 0 → Going start → Going j.next
-going_start start e g = rw e g
+pub run_none : (start : State) (bytes : List ℕ) → Running start bytes (refused start 0 0) 0
+run_none start bytes = record { rest = refl }
 
 pub run_all : {start : State} {bytes : List ℕ} {last : Judged} {at : ℕ} → Running start bytes last at → length bytes ≤ at → last ≡ judged_after (refused start 0 0) (lines_in bytes)
 unfolding judged_after
@@ -84,4 +83,29 @@ module _ {start : State} {bytes : List ℕ} {last : Judged} {at : ℕ} {j : Judg
         let d : after_next (drop at bytes) ≡ drop (at + j.bytes) bytes = drop-drop (cut_of (drop at bytes)).bytes at bytes ∙ ap (λ n. drop (at + n) bytes) (sym took) in
         record { rest = ap (λ ys. judged_after j (lines_in ys)) (sym d) ∙ (rw (eq-eqb _ _ z) at one) }
 
-pub ruleset runs = (run_none, run_from, going_start, run_all, run_stop, run_more)
+-- ### By what the judging of a line hands out
+
+module _ {start : State} {bytes p : List ℕ} (last : Last) {next : State} {at : ℕ} (r : Running start bytes (lines_read last next) at) (l : at < length bytes) (g : Result judged.Taken code.Fault) (d : p ≡ take (length bytes - at) (drop at bytes)) (e : taken_read next g ≡ judged_first next p) where
+  by_slice : taken_read next g ≡ judged_first next (take (length bytes - at) (drop at bytes))
+  by_slice = e ∙ ap (judged_first next) d
+
+  pub loop_stop : {f : code.Fault} → g ≡ Err f → lines_read (Err f) next ≡ judged_after (refused start 0 0) (lines_in bytes)
+  loop_stop {f} w =
+      let i : taken_read next g ≡ lines_read (Err f) next = ap (taken_read next) w in
+      run_stop r l (sym i ∙ by_slice) (Results.refused f.refusal)
+
+  module _ {t : judged.Taken} (w : g ≡ Ok t) where
+    it : lines_read (Ok (Some t.line)) t.next ≡ judged_first next (take (length bytes - at) (drop at bytes))
+    it = sym (ap (taken_read next) w) ∙ by_slice
+
+    pub loop_inside : at + t.line.bytes ≤ length bytes
+    loop_inside = run_inside r l it refl
+
+    pub loop_less : length bytes - (at + t.line.bytes) < length bytes - at
+    loop_less = run_less r l it refl
+
+    pub loop_more : Running start bytes (lines_read (Ok (Some t.line)) t.next) (at + t.line.bytes)
+    loop_more = run_more r l it refl
+
+    pub loop_going : Going next → Going t.next
+    loop_going = going_after next (take (length bytes - at) (drop at bytes)) it

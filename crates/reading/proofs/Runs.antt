@@ -15,7 +15,7 @@ use Rattle.reading.specs.State.{start_state, are_within, is_limited, within}
 use Rattle.reading.specs.Step.{refused, is_done, judged_first, refusal_by, ended_at}
 use Rattle.reading.specs.Check.{judged_after, judged_lines, answer_by, rest_of, check_of}
 use Rattle.reading.specs.declared.State.{State}
-use Rattle.reading.specs.declared.Judged.{Judged}
+use Rattle.reading.specs.Step.{Judged}
 use Rattle.reading.proofs.Running.{first_own, going_on}
 use Rattle.reading.proofs.Verdicts.{taken_as, Taken, takes}
 

@@ -17,7 +17,7 @@ use Rattle.reading.specs.State.{within}
 use Rattle.reading.specs.Step.{refused, read_by, ended_at, step_at}
 use Rattle.reading.specs.Check.{judged_after, judged_lines, answer_by, rest_of, records_after}
 use Rattle.reading.specs.declared.State.{State}
-use Rattle.reading.specs.declared.Judged.{Judged}
+use Rattle.reading.specs.Step.{Judged}
 use Rattle.reading.specs.declared.LineRead.{LineRead}
 use Rattle.reading.proofs.Judgements.{first_beyond}
 use Rattle.reading.proofs.Running.{first_own, going_on, lines_on}

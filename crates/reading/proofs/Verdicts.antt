@@ -23,7 +23,7 @@ use Rattle.reading.specs.State.{within}
 use Rattle.reading.specs.Order.{allowed}
 use Rattle.reading.specs.Step.{with_batch, next_for, refused, taken, judged_as, judged_kind, judged_code, judged_line, taken_with, with_cut, is_done, judged_first}
 use Rattle.reading.specs.declared.State.{State}
-use Rattle.reading.specs.declared.Judged.{Judged}
+use Rattle.reading.specs.Step.{Judged}
 
 -- a record that is taken is one line
 pub next_line_lem : (s : State) (k : Kind) (x : Fields k) → (next_for s k x).line ≡ s.line + 1

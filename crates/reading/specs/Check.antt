@@ -9,7 +9,7 @@ use Rattle.record.specs.declared.Totals.{Totals}
 use Rattle.reading.specs.State.{start_state, within}
 use Rattle.reading.specs.Step.{refused, judged_first, refusal_by, ended_at, step_at}
 use Rattle.reading.specs.declared.State.{State}
-use Rattle.reading.specs.declared.Judged.{Judged}
+use Rattle.reading.specs.Step.{Judged}
 use Rattle.reading.specs.declared.FileRead.{FileRead}
 
 -- lines one after the other up to the first that is refused, after j

@@ -1,11 +1,11 @@
 -- What a line is answered, from every state: the answer, the state after it, the bytes that it took, and the record handed out.
-use Rattle.std.specs.Prelude.{ℕ, ◌+◌, List, [], ◌∷◌, Bool, true, false, take, eqb, Some, None}
+use Rattle.std.specs.Prelude.{ℕ, ◌+◌, List, [], ◌∷◌, Bool, true, false, take, eqb, Some, None, Option, Result, Ok, Err}
 use Rattle.machine.specs.Lists.{pick}
 use Rattle.format.specs.Records.{Fields, group, ordering_account, sequence, unidentified, Code}
 use Rattle.format.specs.Rules.{group_of, is_unchecked_type}
 use Rattle.format.specs.Language.{ten_digits}
 use Rattle.format.specs.Cutting.{is_open, cut_of, EndingSoFar}
-use Rattle.format.specs.Answers.{accepted, broken_line, unknown_record, misplaced_record, ends_early, after_trailer, beyond_limits, refusal, acceptance}
+use Rattle.format.specs.Answers.{accepted, broken_line, unknown_record, misplaced_record, ends_early, after_trailer, beyond_limits, refusal, acceptance, number_of}
 use Rattle.format.specs.declared.Answer.{Answer}
 use Rattle.format.specs.declared.Cut.{Cut}
 use Rattle.format.specs.declared.Kind.{Kind}
@@ -28,7 +28,10 @@ use Rattle.reading.specs.declared.Name.{Name}
 use Rattle.reading.specs.declared.Name.TheVariants.{Unwanted, Due, Read, Past}
 use Rattle.reading.specs.declared.OpenItem.{OpenItem}
 use Rattle.reading.specs.declared.State.{State}
-use Rattle.reading.specs.declared.Judged.{Judged}
+use Rattle.reading.specs.declared.Judged as code
+use Rattle.reading.specs.declared.Accepted.{Accepted}
+use Rattle.reading.specs.declared.Taken.{Taken}
+use Rattle.record.specs.declared.Fault as handed
 use Rattle.reading.specs.declared.LineRead.{LineRead}
 
 -- ## The state after a record
@@ -116,6 +119,14 @@ next_for s FileTrailer x = moved s Done
 
 -- ## The judging of a line
 
+-- what it comes to: the answer's number and column, how many bytes the line took and its code where it is accepted, and the state after it
+pub record Judged : Type 0 where
+  pub number : ℕ
+  pub column : ℕ
+  pub bytes : ℕ
+  pub code : Code
+  pub next : State
+
 -- a refusal leaves the state
 abbrev pub refused : State → ℕ → ℕ → Judged
 refused s column number = record { number = number; column = column; bytes = 0; code = None; next = s }
@@ -168,6 +179,43 @@ judged_first s xs =
     (refused s 0 broken_line)))
     (refused s 0 beyond_limits)
 
+-- ## What functions hand out, in these words
+
+abbrev pub Last : Type 0
+Last = Result (Option Accepted) handed.Fault
+
+abbrev pub number_by : Last → ℕ
+number_by (Ok l) = accepted
+number_by (Err f) = number_of f.refusal
+
+abbrev pub column_by : Last → ℕ
+column_by (Ok l) = 0
+column_by (Err f) = f.column
+
+abbrev pub bytes_by : Last → ℕ
+bytes_by (Ok (Some l)) = l.bytes
+bytes_by (Ok None) = 0
+bytes_by (Err f) = 0
+
+abbrev pub code_by : Last → Code
+code_by (Ok (Some l)) = Some l.kind
+code_by (Ok None) = None
+code_by (Err f) = None
+
+abbrev pub lines_read : Last → State → Judged
+lines_read l next = record { number = number_by l; column = column_by l; bytes = bytes_by l; code = code_by l; next = next }
+
+abbrev pub judged_read : code.Judged → Judged
+judged_read j = lines_read j.last j.next
+
+abbrev pub taken_read : State → Result Taken handed.Fault → Judged
+taken_read s (Ok t) = lines_read (Ok (Some t.line)) t.next
+taken_read s (Err f) = lines_read (Err f) s
+
+abbrev pub state_read : State → Kind → Result State handed.Fault → Judged
+state_read s k (Ok next) = taken k next
+state_read s k (Err f) = refused s f.column (number_of f.refusal)
+
 -- ## THE STEP: what the bytes that remain are answered
 
 -- the line that a refusal names; 24 names none
@@ -176,6 +224,9 @@ refusal_line number line = pick (eqb number beyond_limits) 0 (line + 1)
 
 abbrev pub refusal_by : Judged → Answer
 refusal_by j = refusal j.number (refusal_line j.number j.next.line) j.column
+
+abbrev pub refusal_after : ℕ → handed.Fault → Answer
+refusal_after line f = refusal (number_of f.refusal) (refusal_line (number_of f.refusal) line) f.column
 
 abbrev pub nothing_read : State → Answer → LineRead
 nothing_read s a = record { answer = a; next = s; bytes = 0; read = Nothing; text = no_text }

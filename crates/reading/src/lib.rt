@@ -5,7 +5,7 @@ ghost use Rattle.std.specs.Prelude.{◌≡◌};
 ghost use Rattle.reading.specs.State.{no_item, start_state};
 
 use format::{Answer, Kind};
-use record::{Batch, Before, Record, Totals};
+use record::{Batch, Before, Fault, Record, Totals};
 
 mod judge;
 mod line;
@@ -15,7 +15,7 @@ mod step;
 
 // How far a file is read: before its header, after it, in a batch before and after its ordering party, in an item,
 // after a batch, after the file trailer.
-#[derive(Clone, Copy)]
+#[derive(Clone, Copy, PartialEq, Eq)]
 pub enum Stage {
     Start,
     Headed,
@@ -27,7 +27,7 @@ pub enum Stage {
 }
 
 // The name record of the open item: none wanted, one due, just read (a city may follow), or past.
-#[derive(Clone, Copy)]
+#[derive(Clone, Copy, PartialEq, Eq)]
 pub enum Name {
     Unwanted,
     Due,
@@ -55,14 +55,25 @@ pub struct State {
     pub item: OpenItem,
 }
 
-// What the judging of a line comes to: the answer's number and column, how many bytes the line took and its code where
-// it is accepted, and the state after it.
+// A line that was accepted: its kind, and how many bytes it took.
+#[derive(Clone, Copy)]
+pub struct Accepted {
+    pub kind: Kind,
+    pub bytes: usize,
+}
+
+// The same, and the state after it.
+#[derive(Clone, Copy)]
+struct Taken {
+    line: Accepted,
+    next: State,
+}
+
+// What the lines of some bytes come to: what the first one that is refused is refused for, or else the last one, which
+// no bytes have; and the state after all that were accepted.
 #[derive(Clone, Copy)]
 pub struct Judged {
-    pub number: u8,
-    pub column: u8,
-    pub bytes: usize,
-    pub code: Option<Kind>,
+    pub last: Result<Option<Accepted>, Fault>,
     pub next: State,
 }
 

@@ -1,24 +1,25 @@
 // The line reader.
 ghost use Rattle.std.specs.Prelude.{◌≡◌, ◌+◌, ◌≤◌};
 ghost use Rattle.reading.specs.State.{max_line};
-ghost use Rattle.reading.specs.Step.{refusal_line, nothing_read, ended_at, step_at};
+ghost use Rattle.format.specs.Answers.{number_of};
+ghost use Rattle.reading.specs.Step.{refusal_line, refusal_after, nothing_read, ended_at, step_at};
 
 use crate::judge::is_within;
 use crate::{LineRead, State};
 use field::bytes::{next_line, part};
-use format::{Answer, Kind};
-use record::Record;
+use format::{Answer, Refusal};
+use record::{Fault, Record};
 use record::read::{record_in, text_in};
 
-// The line that a refusal names: 24 names none.
-pub(crate) fn refusal_line(number: u8, line: u64) -> u64
-    requires { refusal_line number line ≤ max_line + 1 }
-    ensures { result ≡ refusal_line number line }
+// What is answered to a fault of the line after that one: 24 names no line.
+pub(crate) fn refused_after(line: u64, fault: Fault) -> Answer
+    requires { refusal_line (number_of fault.refusal) line ≤ max_line + 1 }
+    ensures { result ≡ refusal_after line fault }
 {
-    if number == format::BEYOND_LIMITS {
-        return 0;
+    if fault.refusal == Refusal::BeyondLimits {
+        return Answer::refusal(format::BEYOND_LIMITS, 0, fault.column);
     }
-    line + 1
+    Answer::refusal(fault.refusal.number(), line + 1, fault.column)
 }
 
 impl State {
@@ -53,25 +54,21 @@ impl State {
     pub fn line(self, rest: &[u8]) -> LineRead
         ensures { result ≡ step_at self rest.now }
     {
-        if rest.len() == 0 {
-            return self.nothing_read(self.ended());
-        }
         let line = part(rest, 0, 50);
-        let j = self.lines(next_line(rest, 0));
-        let next = j.next;
-        let code = j.code;
-        match code {
-            Some(k) => LineRead {
-                answer: Answer::accepted(next.line),
-                next,
-                bytes: j.bytes,
-                read: record_in(k, line),
-                text: text_in(k, line),
+        let judged = self.lines(next_line(rest, 0));
+        let next = judged.next;
+        match judged.last {
+            Ok(last) => match last {
+                Some(taken) => LineRead {
+                    answer: Answer::accepted(next.line),
+                    next,
+                    bytes: taken.bytes,
+                    read: record_in(taken.kind, line),
+                    text: text_in(taken.kind, line),
+                },
+                None => next.nothing_read(next.ended()),
             },
-            None => {
-                let named = refusal_line(j.number, next.line);
-                next.nothing_read(Answer::refusal(j.number, named, j.column))
-            }
+            Err(fault) => next.nothing_read(refused_after(next.line, fault)),
         }
     }
 }

@@ -18,15 +18,15 @@ use Rattle.field.specs.Leaf.{Numeric, numeric_of, numeric_read}
 use Rattle.field.proofs.Results.{HandedOn, handed, refused}
 use Rattle.field.proofs.Rows.{row_this, row_next, no_row, of_row, of_value}
 use Rattle.record.specs.Faults.{Fault, fault_at, no_fault, fault_read, at_column}
-use Rattle.record.specs.Read.{TransactionRead, refused_transaction, transaction_read}
+use Rattle.record.specs.Read.{TransactionRead, refused_transaction, fields_read}
 use Rattle.record.specs.declared.Fault as code
 use Rattle.record.specs.declared.TransactionFields.{TransactionFields}
 
-at_number : {A : Type 0} (c : ℕ) (g : Result A Refusal) → (fault_read (at_column c g)).number ≡ number_in g
+pub at_number : {A : Type 0} (c : ℕ) (g : Result A Refusal) → (fault_read (at_column c g)).number ≡ number_in g
 at_number c (Ok x) = refl
 at_number c (Err r) = refl
 
-at_fault : {A : Type 0} (c : ℕ) (g : Result A Refusal) → (number_in g ≡ 0 → ⊥) → fault_read (at_column c g) ≡ fault_at c (number_in g)
+pub at_fault : {A : Type 0} (c : ℕ) (g : Result A Refusal) → (number_in g ≡ 0 → ⊥) → fault_read (at_column c g) ≡ fault_at c (number_in g)
 at_fault c (Ok x) z = absurd (z refl)
 at_fault c (Err r) z = refl
 
@@ -59,8 +59,8 @@ module _ {A : Type 0} (c n : ℕ) (g : Result A Refusal) (h : Result A code.Faul
       pub fault_handed : {C : Type 0} (r : Result C code.Fault) → HandedOn r k → fault_read r ≡ first_or fault_at (row c n ∷ rs) no_fault
       fault_handed r i = row_this fault_at c rs no_fault n s stops (ap fault_read (handed r i) ∙ there)
 
-      pub transaction_handed : (a : TransactionRead) (r : Result TransactionFields code.Fault) → HandedOn r k → transaction_read r ≡ first_or refused_transaction (row c n ∷ rs) a
-      transaction_handed a r i = row_this refused_transaction c rs a n s stops (ap transaction_read (handed r i) ∙ ap (λ (t : Fault). refused_transaction t.column t.number) there)
+      pub transaction_handed : (a : TransactionRead) (r : Result TransactionFields code.Fault) → HandedOn r k → fields_read r ≡ first_or refused_transaction (row c n ∷ rs) a
+      transaction_handed a r i = row_this refused_transaction c rs a n s stops (ap fields_read (handed r i) ∙ ap (λ (t : Fault). refused_transaction t.column t.number) there)
 
   -- the last column
   pub last_column : (r : Result A code.Fault) → r ≡ h → fault_read r ≡ first_or fault_at (row c n ∷ []) no_fault

@@ -62,7 +62,7 @@ module _ {p : List ℕ} {a : Bool} (l : List ℕ) (d : p ≡ l) (e : a ≡ is_gr
 
 -- ## Types
 
-same_is : (g h : Group) → sameb the_type g h ≡ same_group g h
+pub same_is : (g h : Group) → sameb the_type g h ≡ same_group g h
 same_is Payments Payments = refl
 same_is Payments Debits = refl
 same_is Debits Payments = refl

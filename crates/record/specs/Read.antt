@@ -37,9 +37,9 @@ abbrev pub refused_transaction : ℕ → ℕ → TransactionRead
 refused_transaction column number = record { number = number; column = column; read = no_transaction }
 
 -- what a function hands out, in these words
-abbrev pub transaction_read : Result TransactionFields code.Fault → TransactionRead
-transaction_read (Ok x) = record { number = 0; column = 0; read = x }
-transaction_read (Err f) = refused_transaction f.column (number_of f.refusal)
+abbrev pub fields_read : Result TransactionFields code.Fault → TransactionRead
+fields_read (Ok x) = record { number = 0; column = 0; read = x }
+fields_read (Err f) = refused_transaction f.column (number_of f.refusal)
 
 -- the fields of a transaction, and what is wrong in them first
 unfoldable pub transaction_of : Group → ℕ → List ℕ → TransactionRead

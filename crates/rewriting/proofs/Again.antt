@@ -36,7 +36,7 @@ use Rattle.reading.specs.Step.{refused, is_done, step_at}
 use Rattle.reading.specs.Check.{judged_after, judged_lines, check_of, read_of, rest_of}
 use Rattle.reading.specs.declared.Name.TheVariants.{Unwanted}
 use Rattle.reading.specs.declared.State.{State}
-use Rattle.reading.specs.declared.Judged.{Judged}
+use Rattle.reading.specs.Step.{Judged}
 use Rattle.reading.specs.declared.LineRead.{LineRead}
 use Rattle.reading.specs.declared.FileRead.{FileRead}
 use Rattle.reading.proofs.Running.{going_on}

@@ -26,7 +26,7 @@ use Rattle.record.proofs.Faultless.{Formed, faultless}
 use Rattle.record.proofs.Coding.{code_is}
 use Rattle.reading.specs.Step.{with_ending, next_for, judged_first, read_by, step_at}
 use Rattle.reading.specs.declared.State.{State}
-use Rattle.reading.specs.declared.Judged.{Judged}
+use Rattle.reading.specs.Step.{Judged}
 use Rattle.reading.specs.declared.LineRead.{LineRead}
 use Rattle.reading.proofs.Answers.{step_first, step_judged}
 use Rattle.reading.proofs.Slices.{step_own}

@@ -23,7 +23,7 @@ use Rattle.reading.specs.State.{within}
 use Rattle.reading.specs.Order.{allowed}
 use Rattle.reading.specs.Step.{next_for, refused, taken, judged_as, judged_kind, judged_code, judged_line, with_cut, is_done, judged_first, step_at}
 use Rattle.reading.specs.declared.State.{State}
-use Rattle.reading.specs.declared.Judged.{Judged}
+use Rattle.reading.specs.Step.{Judged}
 use Rattle.writer.specs.Encoding.{Given, Givens, encode_field, encode_fields}
 use Rattle.writer.specs.Entries.{kind_of, given_for, line_for}
 use Rattle.writer.specs.Writing.{answered, written_by, written_of}

@@ -4,7 +4,7 @@ ghost use Rattle.format.specs.Tests.{amount_tests, payer_tests, beneficiary_test
 ghost use Rattle.field.specs.Rows.{part_at};
 ghost use Rattle.field.specs.Leaf.{numeric_read, numeric_of};
 ghost use Rattle.record.specs.Faults.{fault_read, maxima_fault};
-ghost use Rattle.record.specs.Read.{transaction_read, transaction_of};
+ghost use Rattle.record.specs.Read.{fields_read, transaction_of};
 
 use crate::faults::at;
 use crate::types::{is_unchecked_type, type_answer, type_in};
@@ -39,7 +39,7 @@ fn beneficiary_in(
 
 // The fields of a transaction, and what is wrong in them first.
 pub fn transaction_in(line: &[u8], group: Group, own: u64) -> Result<TransactionFields, Fault>
-    ensures { transaction_read result ≡ transaction_of group own line.now }
+    ensures { fields_read result ≡ transaction_of group own line.now }
 {
     let kind = type_in(line);
     at(6, type_answer(line, kind, group))?;

@@ -1,22 +1,27 @@
--- What judge::run ensures and its loop keeps, by the laws of format's Cutting, Running and Judgements.
 use borrow.Author.Rules.{rules}
-use Rattle.reading.proofs.Running.{runs, run_inside, run_less, run_more}
-use Rattle.reading.proofs.Judgements.{going_after}
+use mathlib.Core.Path.{refl}
+use Rattle.reading.proofs.Running.{run_none, run_all, loop_stop, loop_inside, loop_less, loop_more, loop_going}
 use Rattle.reading.proofs.judge.run.Goals as goal
 
-pub returns-then-last-ne0 : goal.returns-then-last-ne0
-returns-then-last-ne0 c = search runs depth 20 fits 10000
+pub loop-at-init : goal.loop-at-init
+loop-at-init c = (c.requires, run_none _ _)
+
+pub judge_first-requires : goal.judge_first-requires
+judge_first-requires c = c.loop-at.invariant.0
 
 pub overflow_add-at : goal.overflow_add-at
 overflow_add-at c =
-    let inside = run_inside c.loop-at.invariant.1 c.loop-at-test.true c.then-last.ensures c.if-last-ne0.false in
+    let inside = loop_inside _ c.loop-at.invariant.1 c.loop-at-test.true _ refl c.judge_first.ensures c.in-Ok.is in
     search rules
 
 pub loop-at-smaller : goal.loop-at-smaller
-loop-at-smaller c = search run_less depth 20 fits 10000
+loop-at-smaller c = loop_less _ c.loop-at.invariant.1 c.loop-at-test.true _ refl c.judge_first.ensures c.in-Ok.is
 
 pub loop-at-preserved : goal.loop-at-preserved
-loop-at-preserved c = (search going_after depth 20 fits 10000, search run_more depth 20 fits 10000)
+loop-at-preserved c = (loop_going _ c.loop-at.invariant.1 c.loop-at-test.true _ refl c.judge_first.ensures c.in-Ok.is c.loop-at.invariant.0, loop_more _ c.loop-at.invariant.1 c.loop-at-test.true _ refl c.judge_first.ensures c.in-Ok.is)
+
+pub returns-in-Err : goal.returns-in-Err
+returns-in-Err c = loop_stop _ c.loop-at.invariant.1 c.loop-at-test.true _ refl c.judge_first.ensures c.in-Err.is
 
 pub returns : goal.returns
-returns c = search runs depth 20 fits 10000
+returns c = run_all c.loop-at.invariant.1 c.loop-at-test.false
