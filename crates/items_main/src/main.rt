@@ -6,12 +6,15 @@ use field::bytes::{is_digits, part};
 use field::numbers::Digits;
 use format::{Answer, TypeRead};
 use items::{ItemFields, ItemRead, Search};
-use page::{put_answer, put_input, put_line, put_number};
+use page::Page;
 use reading::State;
 use record::types::type_text;
 use std::process::ExitCode;
 use std::rt::Env;
 use streams::{Lines, Printed, Reader};
+
+// How many bytes are printed of a file at most.
+const PAGE: usize = 8192;
 
 // A search so far: the answer to the last line of the file, the state after it, what was found, whether it was the
 // last line, and whether all was read.
@@ -24,37 +27,22 @@ struct Sought {
     done: bool,
 }
 
-fn put_numbers(page: &mut [u8], at: usize, fields: ItemFields) -> usize {
-    let a = put_number(page, at, b"amount=", fields.amount, 1);
-    let b = put_number(page, a, b"payer=", fields.payer, 10);
-    put_number(page, b, b"beneficiary=", fields.beneficiary, 10)
-}
-
-fn put_texts(page: &mut [u8], at: usize, fields: ItemFields) -> usize {
-    let reference = fields.reference;
-    let name = fields.name;
-    let a = put_line(page, at, b"reference=", &reference);
-    put_line(page, a, b"name=", &name)
-}
-
-fn put_descriptions(page: &mut [u8], at: usize, texts: &[u8]) -> usize {
-    let a = put_line(page, at, b"description1=", part(texts, 0, 32));
-    let b = put_line(page, a, b"description2=", part(texts, 32, 32));
-    let c = put_line(page, b, b"description3=", part(texts, 64, 32));
-    put_line(page, c, b"description4=", part(texts, 96, 32))
-}
-
 // The item, where there is one.
-fn put_item(page: &mut [u8], at: usize, fields: ItemFields, texts: &[u8]) -> usize {
-    let kind = fields.kind;
-    match kind {
-        TypeRead::Of(t) => {
-            let a = put_line(page, at, b"type=", &type_text(t));
-            let b = put_numbers(page, a, fields);
-            let c = put_texts(page, b, fields);
-            put_descriptions(page, c, texts)
+fn put_item(page: &mut Page<PAGE>, fields: ItemFields, texts: &[u8; 128]) {
+    match fields.kind {
+        TypeRead::Of(kind) => {
+            page.line(b"type=", &type_text(kind));
+            page.number(b"amount=", fields.amount, 1);
+            page.number(b"payer=", fields.payer, 10);
+            page.number(b"beneficiary=", fields.beneficiary, 10);
+            page.line(b"reference=", &fields.reference);
+            page.line(b"name=", &fields.name);
+            page.line(b"description1=", &texts[..32]);
+            page.line(b"description2=", &texts[32..64]);
+            page.line(b"description3=", &texts[64..96]);
+            page.line(b"description4=", &texts[96..]);
         }
-        TypeRead::NoType => at,
+        TypeRead::NoType => {}
     }
 }
 
@@ -91,14 +79,18 @@ fn seek_lines(rt: &HostRuntime, before: Sought, reader: &Reader, name: &[u8]) ->
 }
 
 // What is printed of a file, and what became of that.
-fn print(rt: &HostRuntime, found: ItemRead, texts: &[u8], name: &[u8], several: bool) -> Printed {
-    let mut page = [0u8; 8192];
-    let fields = found.fields;
-    let a = put_input(&mut page, name, several);
-    let b = put_item(&mut page, a, fields, texts);
-    let answer = found.answer;
-    let c = put_answer(&mut page, b, answer);
-    streams::outcome(rt, rt.write_all(part(&page, 0, c)))
+fn print(
+    rt: &HostRuntime,
+    found: ItemRead,
+    texts: &[u8; 128],
+    name: &[u8],
+    several: bool,
+) -> Printed {
+    let mut page: Page<PAGE> = Page::blank();
+    page.input(name, several);
+    put_item(&mut page, found.fields, texts);
+    page.answer(found.answer);
+    streams::outcome(rt, rt.write_all(page.filled()))
 }
 
 fn unsought(search: Search) -> Sought {

@@ -58,7 +58,8 @@ impl<const N: usize> Page<N> {
         part(&self.bytes, 0, self.at)
     }
 
-    fn has_room(&self, bytes: usize) -> bool
+    // Whether that many bytes more have room.
+    pub fn has_room(&self, bytes: usize) -> bool
         ensures { result ≡ leb (self.now.1 + bytes) (length self.now.0) }
     {
         self.at <= N && bytes <= N - self.at

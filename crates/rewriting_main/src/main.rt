@@ -4,28 +4,25 @@
 #![tactic(auto)]
 
 use checking::Checked;
-use field::bytes::part;
 use format::Answer;
-use page::{put_answer, put_input, put_text};
+use page::Page;
 use reading::State;
 use record::Record;
 use std::process::ExitCode;
 use std::rt::Env;
-use streams::{Lines, Printed, Reader, Source};
+use streams::{BUFFER, Lines, Printed, Reader, Source};
 use telling::put_name;
 use writer::Entry;
 
 // Where output cannot be written, nothing more is: a whole file after half a one would look like one file.
 const NO_MORE: u8 = 3;
 
-// A file so far: the answer to the last line, the reader's state after it and the writer's, how much of the page is
-// filled, whether it was the last line, whether all was read, and what became of what was written.
+// A file so far: the answer to the last line, the reader's state after it and the writer's, whether it was the last line, whether all was read, and what became of what was written.
 #[derive(Clone, Copy)]
 struct Copied {
     answer: Answer,
     reader: State,
     writer: State,
-    at: usize,
     ended: bool,
     read: bool,
     printed: Printed,
@@ -92,27 +89,23 @@ fn entry_of(read: Record) -> Again {
 }
 
 // A record onto the page, which has room for it. The writer refuses nothing here (docs/DECISIONS.md, 25).
-fn put_entry(before: Copied, entry: Entry, text: [u8; 35], page: &mut [u8]) -> Copied {
+fn put_entry(before: Copied, entry: Entry, text: [u8; 35], page: &mut Page<BUFFER>) -> Copied {
     let mut copied = before;
-    let at = before.at;
-    if page.len() < at {
+    if BUFFER < page.at {
         return copied;
     }
-    let state = before.writer;
-    let w = writer::write(state, entry, text, &mut page[at..]);
-    let answer = w.answer;
-    if answer.number != 0 {
-        copied.answer = answer;
+    let w = writer::write(before.writer, entry, text, &mut page.bytes[page.at..]);
+    if w.answer.number != format::ACCEPTED {
+        copied.answer = w.answer;
         return copied;
     }
-    let next = w.next;
-    copied.writer = next;
-    copied.at = at + writer::LINE;
+    copied.writer = w.next;
+    page.at += writer::LINE;
     copied
 }
 
 // One line of what the buffer holds, or the end.
-fn copy_line(before: Copied, rest: &[u8], page: &mut [u8]) -> Copied {
+fn copy_line(before: Copied, rest: &[u8], page: &mut Page<BUFFER>) -> Copied {
     let state = before.reader;
     let r = state.line(rest);
     let read = r.read;
@@ -130,12 +123,12 @@ fn copy_line(before: Copied, rest: &[u8], page: &mut [u8]) -> Copied {
 }
 
 // Writes what is gathered, where the next line might not fit or there is none.
-fn make_room(rt: &HostRuntime, before: Copied, page: &[u8]) -> Copied {
+fn make_room(rt: &HostRuntime, before: Copied, page: &mut Page<BUFFER>) -> Copied {
     let mut copied = before;
-    if copied.ended | (page.len() <= copied.at) {
-        copied.printed = streams::outcome(rt, rt.write_all(part(page, 0, copied.at)));
+    if copied.ended | (BUFFER <= page.at) {
+        copied.printed = streams::outcome(rt, rt.write_all(page.filled()));
         copied.ended = copied.ended | !copied.printed.is_whole();
-        copied.at = 0;
+        page.at = 0;
     }
     copied
 }
@@ -146,7 +139,7 @@ fn copy_next(
     before: Copied,
     rest: &[u8],
     failed: bool,
-    page: &mut [u8],
+    page: &mut Page<BUFFER>,
 ) -> Copied {
     let mut copied = copy_line(before, rest, page);
     copied.ended = (copied.answer.number != 0) | (rest.len() == 0);
@@ -160,9 +153,9 @@ fn copy_lines(
     start: Lines,
     reader: &Reader,
     name: &[u8],
-    page: &mut [u8],
+    page: &mut Page<BUFFER>,
 ) -> Copied {
-    let mut buffer = [0u8; streams::BUFFER];
+    let mut buffer = [0u8; BUFFER];
     let mut lines = start;
     let mut copied = unwritten();
     for _ in 0..u64::MAX {
@@ -183,7 +176,6 @@ fn unwritten() -> Copied {
         answer,
         reader,
         writer,
-        at: 0,
         ended: false,
         read: true,
         printed: Printed::Whole,
@@ -192,23 +184,22 @@ fn unwritten() -> Copied {
 
 // Tells why a file was refused, and whether that could be told.
 fn is_told(rt: &HostRuntime, checked: Checked, name: &[u8], several: bool) -> bool {
-    let mut page = [0u8; 8192];
-    let a = put_input(&mut page, name, several);
-    let answer = checked.answer;
-    let b = put_answer(&mut page, a, answer);
-    rt.stderr().write_all(part(&page, 0, b)).is_ok()
+    let mut page: Page<8192> = Page::blank();
+    page.input(name, several);
+    page.answer(checked.answer);
+    rt.stderr().write_all(page.filled()).is_ok()
 }
 
 // A file that was accepted is another one now.
 fn tell_changed(rt: &HostRuntime, name: &[u8]) {
-    let mut page = [0u8; 8192];
-    let a = put_name(&mut page, 0, name);
-    let b = put_text(&mut page, a, b": it changed while it was read\n");
-    let _ = rt.stderr().write_all(part(&page, 0, b));
+    let mut page: Page<8192> = Page::blank();
+    put_name(&mut page, name);
+    page.text(b": it changed while it was read\n");
+    let _ = rt.stderr().write_all(page.filled());
 }
 
 // The second reading of an accepted file.
-fn copy_again(rt: &HostRuntime, source: &Source, name: &[u8], page: &mut [u8]) -> u8 {
+fn copy_again(rt: &HostRuntime, source: &Source, name: &[u8], page: &mut Page<BUFFER>) -> u8 {
     let lines = streams::again(rt, source, name);
     let copied = copy_lines(rt, lines, &source.reader, name, page);
     if !copied.printed.is_whole() {
@@ -229,9 +220,9 @@ fn copy_source(
     source: &Source,
     name: &[u8],
     several: bool,
-    page: &mut [u8],
+    page: &mut Page<BUFFER>,
 ) -> u8 {
-    let checked = checking::check(rt, reader, name, page);
+    let checked = checking::check(rt, reader, name, &mut page.bytes);
     let lines = checked.lines;
     if lines.failed {
         return streams::status_of(checked.answer.number, false);
@@ -242,7 +233,13 @@ fn copy_source(
     copy_again(rt, source, name, page)
 }
 
-fn copy_file(rt: &HostRuntime, reader: Reader, name: &[u8], several: bool, page: &mut [u8]) -> u8 {
+fn copy_file(
+    rt: &HostRuntime,
+    reader: Reader,
+    name: &[u8],
+    several: bool,
+    page: &mut Page<BUFFER>,
+) -> u8 {
     let anew = streams::anew(rt, &reader);
     if anew.is_open() {
         let source = streams::rereadable(rt, anew, name);
@@ -256,7 +253,7 @@ fn copy_file(rt: &HostRuntime, reader: Reader, name: &[u8], several: bool, page:
 }
 
 // The file of argument i, or standard input.
-fn copy_input(rt: &HostRuntime, i: usize, several: bool, page: &mut [u8]) -> u8 {
+fn copy_input(rt: &HostRuntime, i: usize, several: bool, page: &mut Page<BUFFER>) -> u8 {
     let mut name = [0u8; 4096];
     let input = streams::open(rt, i, &mut name);
     if input.reader.is_open() {
@@ -266,7 +263,13 @@ fn copy_input(rt: &HostRuntime, i: usize, several: bool, page: &mut [u8]) -> u8 
 }
 
 // The next file, where output can still be written.
-fn copy_next_input(rt: &HostRuntime, i: usize, before: u8, several: bool, page: &mut [u8]) -> u8 {
+fn copy_next_input(
+    rt: &HostRuntime,
+    i: usize,
+    before: u8,
+    several: bool,
+    page: &mut Page<BUFFER>,
+) -> u8 {
     if before == NO_MORE {
         return before;
     }
@@ -274,7 +277,7 @@ fn copy_next_input(rt: &HostRuntime, i: usize, before: u8, several: bool, page: 
 }
 
 fn main(rt: HostRuntime) -> ExitCode {
-    let mut page = [0u8; streams::BUFFER];
+    let mut page = Page::blank();
     let several = streams::is_given(rt.arg(2, &mut []));
     let mut status = copy_input(&rt, 1, several, &mut page);
     for i in 2..usize::MAX {
