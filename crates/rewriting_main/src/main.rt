@@ -17,7 +17,8 @@ use writer::Entry;
 // Where output cannot be written, nothing more is: a whole file after half a one would look like one file.
 const NO_MORE: u8 = 3;
 
-// A file so far: the answer to the last line, the reader's state after it and the writer's, whether it was the last line, whether all was read, and what became of what was written.
+// A file so far: the answer to the last line, the reader's state after it and the writer's, whether it was the last
+// line, whether all was read, and what became of what was written.
 #[derive(Clone, Copy)]
 struct Copied {
     answer: Answer,
