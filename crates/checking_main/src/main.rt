@@ -5,7 +5,7 @@
 
 use checking::Checked;
 use field::bytes::part;
-use format::{Answer, Code};
+use format::{Answer, Kind};
 use page::Page;
 use record::Totals;
 use record::kinds::code_of;
@@ -29,7 +29,7 @@ struct Extent {
 // A refused line as it is shown: its code, and its first 50 characters, with spaces after the last.
 #[derive(Clone, Copy)]
 struct LineShown {
-    code: Code,
+    code: Option<Kind>,
     text: [u8; 50],
 }
 
@@ -143,7 +143,7 @@ fn shown(number: u8, line: &[u8]) -> LineShown {
     }
 }
 
-fn put_where(page: &mut Page<PAGE>, answer: Answer, code: Code) {
+fn put_where(page: &mut Page<PAGE>, answer: Answer, code: Option<Kind>) {
     page.text(b": line ");
     page.digits(answer.line, 1);
     if answer.column != 0 {

@@ -1,4 +1,5 @@
 -- The numbers and texts of an item, handed out where there is room for all of them. Assumes nothing.
+use Rattle.std.specs.Prelude.{Some, None}
 use Prim.Native.Nat.{ℕ, ◌+◌, ◌≤◌, ◌<◌}
 use mathlib.Core.Path.{◌≡◌, refl, sym, ap, ap₂, subst, ◌∙◌}
 use mathlib.Core.List.{List, [], ◌∷◌, ◌++◌, append-nil, append_assoc}
@@ -15,11 +16,9 @@ use Rattle.machine.specs.Digits.{digits_onto, decimal, value_after}
 use Rattle.format.specs.Answers.{refusal, acceptance}
 use Rattle.format.specs.declared.Answer.{Answer}
 use Rattle.format.specs.Cutting.{lines_in}
-use Rattle.format.specs.Rules.{type_of, is_type}
+use Rattle.format.specs.Rules.{type_of, is_type, TypeRead}
 use Rattle.format.specs.declared.TransactionType.{TransactionType}
 use Rattle.format.specs.declared.TransactionType.TheVariants.{UncheckedCreditor, UncheckedSalary, Creditor, Salary, Debit, UncheckedDebit}
-use Rattle.format.specs.declared.TypeRead.{TypeRead}
-use Rattle.format.specs.declared.TypeRead.TheVariants.{Of, NoType}
 use Rattle.field.proofs.Putting.{put_fits, length_pasted, pasted_both}
 use Rattle.reading.specs.Check.{check_of}
 use Rattle.record.proofs.Typing.{of_case}
@@ -33,11 +32,11 @@ use Rattle.clieop_c.proofs.Packing.{check_line}
 
 -- ## The type
 
-pub type_of_lem : {k : TypeRead} {y : TransactionType} {x : ℕ} → k ≡ Of y → x ≡ number_of y → x ≡ type_number k
+pub type_of_lem : {k : TypeRead} {y : TransactionType} {x : ℕ} → k ≡ Some y → x ≡ number_of y → x ≡ type_number k
 type_of_lem e h = of_case type_number e h
 
 -- its number is read back
-number_read : (y : TransactionType) → type_of (decimal 4 (number_of y)) ≡ Of y
+number_read : (y : TransactionType) → type_of (decimal 4 (number_of y)) ≡ Some y
 unfolding type_of decimal digits_onto number_of value_after same pick
 number_read UncheckedCreditor = refl
 number_read UncheckedSalary = refl
@@ -47,8 +46,8 @@ number_read Debit = refl
 number_read UncheckedDebit = refl
 
 type_read : (k : TypeRead) → is_type k ≡ true → type_of (decimal 4 (type_number k)) ≡ k
-type_read (Of y) h = number_read y
-type_read NoType h = absurd (let z : ◌≡◌ {A = ℕ} 0 1 = cc in omega arith)
+type_read (Some y) h = number_read y
+type_read None h = absurd (let z : ◌≡◌ {A = ℕ} 0 1 = cc in omega arith)
 
 -- ## Numbers
 

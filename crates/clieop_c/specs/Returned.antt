@@ -1,14 +1,12 @@
 -- What the functions for other languages return, and what they leave in the numbers and bytes lent to them.
-use Rattle.std.specs.Prelude.{ℕ, ◌+◌, ◌*◌, ◌/◌, ◌%◌, ◌≡◌, List, [], ◌∷◌, ◌++◌, length, get_or, take, drop, leb, eqb}
+use Rattle.std.specs.Prelude.{ℕ, ◌+◌, ◌*◌, ◌/◌, ◌%◌, ◌≡◌, List, [], ◌∷◌, ◌++◌, length, get_or, take, drop, leb, eqb, Some, None}
 use Rattle.machine.specs.Lists.{pick, pasted}
 use Rattle.machine.specs.Digits.{value_of, decimal}
 use Rattle.format.specs.Answers.{accepted, refusal}
 use Rattle.format.specs.declared.Answer.{Answer}
-use Rattle.format.specs.Rules.{type_text, type_of}
+use Rattle.format.specs.Rules.{type_text, type_of, TypeRead}
 use Rattle.format.specs.Language.{File, Reads}
 use Rattle.format.specs.declared.TransactionType.{TransactionType}
-use Rattle.format.specs.declared.TypeRead.{TypeRead}
-use Rattle.format.specs.declared.TypeRead.TheVariants.{Of, NoType}
 use Rattle.reading.specs.declared.FileRead.{FileRead}
 use Rattle.file.specs.Totals.{Sums}
 use Rattle.rewriting.specs.Rewriting.{answered}
@@ -66,8 +64,8 @@ unfoldable pub number_of : TransactionType → ℕ
 number_of t = value_of (type_text t)
 
 abbrev pub type_number : TypeRead → ℕ
-type_number (Of t) = number_of t
-type_number NoType = 0
+type_number (Some t) = number_of t
+type_number None = 0
 
 -- the answer to one who asks for an item; with room for its texts or its numbers lacking, that of one who has no room at all
 unfoldable pub item_asked : List ℕ → ℕ → ℕ → ℕ → ℕ → ItemRead

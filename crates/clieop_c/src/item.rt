@@ -7,7 +7,7 @@ ghost use Rattle.clieop_c.specs.Returned.{fields_back, item_numbers, item_texts,
 
 use crate::pack;
 use field::bytes::put;
-use format::{TransactionType, TypeRead};
+use format::TransactionType;
 use items::{ItemFields, ItemRead};
 
 fn number_of(kind: TransactionType) -> u64
@@ -23,12 +23,12 @@ fn number_of(kind: TransactionType) -> u64
     }
 }
 
-fn type_number(kind: TypeRead) -> u64
+fn type_number(kind: Option<TransactionType>) -> u64
     ensures { result ≡ type_number kind }
 {
     match kind {
-        TypeRead::Of(y) => number_of(y),
-        TypeRead::NoType => 0,
+        Some(y) => number_of(y),
+        None => 0,
     }
 }
 

@@ -1,4 +1,5 @@
 -- Days of months and years, the day number's bounds, and signed days apart. Assumes nothing.
+use Rattle.std.specs.Prelude.{Some, None}
 use Prim.Native.Nat.{ℕ, zero, suc, ◌+◌, ◌-◌, ◌*◌, ◌/◌, ◌%◌, ◌≤◌, ◌<◌}
 use mathlib.Core.Path.{◌≡◌, refl, sym, ◌∙◌, ap, ap₂, subst}
 use mathlib.Core.Bool.{Bool, true, false, cond, ◌||◌}
@@ -14,10 +15,8 @@ use mir.ValLaws.{to_z-of_z, to_z_pos}
 use Rattle.machine.specs.Lists.{pick, in_range}
 use Rattle.machine.proofs.Base.{and_l, and_r, of_eq}
 use Rattle.format.specs.Rules.{days_in, is_date}
-use Rattle.format.specs.declared.Arrival.{Arrival}
-use Rattle.format.specs.declared.Arrival.TheVariants.{NotGiven, On}
 use Rattle.field.specs.Rows.{first_answer}
-use Rattle.format.specs.Arrival.{days_of_months, days_of_years, day_number, days_ahead, is_near, is_timely, is_possible, arrival_tests}
+use Rattle.format.specs.Arrival.{days_of_months, days_of_years, day_number, days_ahead, is_near, is_timely, is_possible, arrival_tests, Arrival}
 
 -- ## The months before
 
@@ -188,17 +187,17 @@ pub ruleset timelies = (timely_yes, timely_no, rules)
 
 -- ## By cases of the arrival
 
-pub possible_on : {t : Arrival} {d : ℕ} {b : Bool} → t ≡ On d → b ≡ is_date d → b ≡ is_possible t
+pub possible_on : {t : Arrival} {d : ℕ} {b : Bool} → t ≡ Some d → b ≡ is_date d → b ≡ is_possible t
 unfolding is_possible
 possible_on e h = h ∙ ap is_possible (sym e)
 
-pub possible_none : {t : Arrival} → t ≡ NotGiven → true ≡ is_possible t
+pub possible_none : {t : Arrival} → t ≡ None → true ≡ is_possible t
 unfolding is_possible
 possible_none e = ap is_possible (sym e)
 
 pub ruleset possibles = (possible_on, possible_none)
 
-module _ {t : Arrival} {d : ℕ} {b : Bool} (v : ℕ) (e : t ≡ On d) (k : b ≡ is_timely d v) where
+module _ {t : Arrival} {d : ℕ} {b : Bool} (v : ℕ) (e : t ≡ Some d) (k : b ≡ is_timely d v) where
   pub arrival_yes : b ≡ true → 0 ≡ first_answer (arrival_tests t v)
   unfolding pick
   arrival_yes h = rw (e, sym k ∙ h)
@@ -207,7 +206,7 @@ module _ {t : Arrival} {d : ℕ} {b : Bool} (v : ℕ) (e : t ≡ On d) (k : b �
   unfolding pick
   arrival_no h = rw (e, sym k ∙ h)
 
-pub arrival_none : {t : Arrival} (v : ℕ) → t ≡ NotGiven → 0 ≡ first_answer (arrival_tests t v)
+pub arrival_none : {t : Arrival} (v : ℕ) → t ≡ None → 0 ≡ first_answer (arrival_tests t v)
 arrival_none v e = rw e
 
 pub ruleset arrivals = (arrival_yes, arrival_no, arrival_none)
@@ -215,5 +214,5 @@ pub ruleset arrivals = (arrival_yes, arrival_no, arrival_none)
 -- 'a date left at zeros'
 pub zeros_pass : (t : Arrival) (v : ℕ) → v ≡ 0 → 0 ≡ first_answer (arrival_tests t v)
 unfolding is_timely pick
-zeros_pass NotGiven v e = refl
-zeros_pass (On d) v e = rw e
+zeros_pass None v e = refl
+zeros_pass (Some d) v e = rw e

@@ -5,7 +5,6 @@ ghost use Rattle.format.specs.Arrival.{days_of_months, day_number, days_ahead, i
 ghost use Rattle.field.specs.Rows.{first_answer};
 
 use crate::dates::{days_in, is_date};
-use format::Arrival;
 
 pub const UNTIMELY_DATE: u8 = 21;
 
@@ -70,13 +69,13 @@ fn is_timely(arrival: u64, desired: u64) -> bool
 }
 
 // What a desired date that exists is answered.
-pub(crate) fn arrival_answer(arrival: Arrival, desired: u64) -> u8
+pub(crate) fn arrival_answer(arrival: Option<u64>, desired: u64) -> u8
     requires { is_date desired ≡ true }
     ensures { result ≡ first_answer (arrival_tests arrival desired) }
 {
     match arrival {
-        Arrival::NotGiven => 0,
-        Arrival::On(date) => if is_timely(date, desired) {
+        None => 0,
+        Some(date) => if is_timely(date, desired) {
             0
         } else {
             UNTIMELY_DATE
@@ -85,11 +84,11 @@ pub(crate) fn arrival_answer(arrival: Arrival, desired: u64) -> u8
 }
 
 // Whether a file may arrive so: without a date, or on one that exists.
-pub fn is_possible(arrival: Arrival) -> bool
+pub fn is_possible(arrival: Option<u64>) -> bool
     ensures { result ≡ is_possible arrival }
 {
     match arrival {
-        Arrival::NotGiven => true,
-        Arrival::On(date) => is_date(date),
+        None => true,
+        Some(date) => is_date(date),
     }
 }

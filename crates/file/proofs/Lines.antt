@@ -1,4 +1,5 @@
 -- ONE LINE: in every state of the code, what is judged of a line is what the language's reader does with it. Assumes nothing.
+use Rattle.std.specs.Prelude.{Some, None}
 use Prim.Native.Nat.{ℕ, zero, suc, ◌+◌, ◌-◌, ◌≤◌}
 use mathlib.Core.Path.{◌≡◌, refl, sym, ap, ap₂, ◌∙◌, subst}
 use mathlib.Core.Logic.{◌≢◌}
@@ -12,7 +13,7 @@ use lib.Dec.{T}
 use Rattle.machine.specs.Lists.{pick, same}
 use Rattle.machine.proofs.Base.{next, refuse, same→eq}
 use Rattle.format.specs.Fields.{widths, read_fields}
-use Rattle.format.specs.Records.{layout, code, Fields, type, amount, payer, beneficiary}
+use Rattle.format.specs.Records.{layout, code, Fields, type, amount, payer, beneficiary, Code}
 use Rattle.format.specs.Rules.{is_unchecked_type, type_of}
 use Rattle.format.specs.Language.{ten_digits}
 use Rattle.format.specs.Answers.{is_of_file, beyond_limits}
@@ -21,8 +22,6 @@ use Rattle.format.specs.declared.Kind.{Kind}
 use Rattle.format.specs.declared.Kind.TheVariants.{Transaction}
 use Rattle.format.specs.declared.Group.{Group}
 use Rattle.format.specs.declared.Group.TheVariants.{Payments, Debits}
-use Rattle.format.specs.declared.Code.{Code}
-use Rattle.format.specs.declared.Code.TheVariants.{Of, Unknown}
 use Rattle.format.proofs.Checks.{judge, pass_judge, line_checks}
 use Rattle.format.proofs.Every.{kinds}
 use Rattle.format.proofs.Reader.{Room, fresh, left, Phase, opened, paying, owed, at, unnamed_payment, named_payment, open_debit, Place, file_header, first_batch_b, first_batch_c, next_batch_b, next_batch_c, fixed_description, ordering_party, first_item, next_item, batch_trailer, payment_reference, payment_description, payment_description_more, beneficiary_name, beneficiary_city, payer_name, payer_city, debit_reference, debit_description, debit_description_more, file_trailer, Choice, choices, opens, add_item, begin_item, advance, tests, maxima, kind_of, find, step}
@@ -242,7 +241,7 @@ unfolding judged_line judged_kind
 line_agrees s line = by (code_of (take 5 line)) refl
   where
     by : (c : Code) → code_of (take 5 line) ≡ c → Agrees s line (judged_code s line c)
-    by (Of k) e = by_place s line k (code_is (take 5 line) k e) (allowed s k) refl
-    by Unknown e =
+    by (Some k) e = by_place s line k (code_is (take 5 line) k e) (allowed s k) refl
+    by None e =
         let n = no_code (take 5 line) e in
         stops 1 2 (omega arith, refl) (step_out (phase_of s) (context_of s.before s.batch) line (no_choice (take 5 line) (choices (phase_of s)) n) ∙ ap the.lost (no_kind (take 5 line) kinds n))

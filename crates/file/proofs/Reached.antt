@@ -1,4 +1,6 @@
 -- No state of a run is beyond the limits, and no step of a run is answered 24. Assumes nothing.
+use Rattle.format.specs.Records.{Code}
+use Rattle.std.specs.Prelude.{Some, None}
 use Prim.Native.Nat.{ℕ, ◌+◌}
 use mathlib.Core.Path.{◌≡◌, refl, sym, subst}
 use mathlib.Core.Logic.{◌≢◌}
@@ -8,8 +10,6 @@ use lib.ListN.{take}
 use Rattle.machine.specs.Lists.{pick}
 use Rattle.format.specs.Answers.{is_of_file, beyond_limits, refusal, acceptance}
 use Rattle.format.specs.Cutting.{is_open, cut_of}
-use Rattle.format.specs.declared.Code.{Code}
-use Rattle.format.specs.declared.Code.TheVariants.{Of, Unknown}
 use Rattle.reading.specs.State.{within}
 use Rattle.reading.specs.Step.{refused, judged_line, with_cut, is_done, judged_first, read_by, ended_at, step_at}
 use Rattle.reading.specs.declared.State.{State}
@@ -43,8 +43,8 @@ first_of_file s xs w = rw w (by (is_done s) (is_open s.before.ending (cut_of xs)
     by false false = refl
 
 read : (line : List ℕ) (c : Code) (j : Judged) → is_of_file j.number ≡ true → ((read_by line c j).next ≡ j.next) × (is_of_file (read_by line c j).answer.number ≡ true)
-read line (Of k) j h = (refl, refl)
-read line Unknown j h = (refl, h)
+read line (Some k) j h = (refl, refl)
+read line None j h = (refl, h)
 
 reach_step : (s : State) (xs : List ℕ) → Reach s → Reach (step_at s xs).next × (is_of_file (step_at s xs).answer.number ≡ true)
 unfolding step_at

@@ -14,11 +14,10 @@ use Rattle.machine.proofs.Base.{next, drop_take}
 use Rattle.machine.proofs.Base as base
 use Rattle.machine.proofs.Lines.{follow, on_line, run}
 use Rattle.machine.proofs.Lines as lines
-use Rattle.format.specs.Cutting.{is_open, cut_of, next_line, after_next, lines_from, lines_in, cut, turn}
+use Rattle.format.specs.Cutting.{is_open, cut_of, next_line, after_next, lines_from, lines_in, cut, turn, EndingSoFar}
 use Rattle.format.specs.Answers.{refusal, acceptance}
 use Rattle.format.specs.declared.Answer.{Answer}
 use Rattle.format.specs.declared.Cut.{Cut}
-use Rattle.format.specs.declared.EndingSoFar.{EndingSoFar}
 use Rattle.format.specs.declared.Group.{Group}
 use Rattle.format.specs.declared.Group.TheVariants.{Payments, Debits}
 use Rattle.format.proofs.Reader.{Room, ended, is_end, step}

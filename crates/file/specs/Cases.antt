@@ -1,5 +1,7 @@
 -- 01's cases that are proved (1 to 11), a file without a batch, the example with each line end, and those of 02's requests [1] to [3] and [5], of the definitions that the contracts name, in one table.
-use Rattle.std.specs.Prelude.{◌≡◌, Bool, true, false, List, [], ◌∷◌, ◌++◌, ℕ, ◌+◌, ◌*◌, take, drop}
+use Rattle.format.specs.Cutting.{EndingSoFar}
+use Rattle.format.specs.declared.LineEnd.TheVariants.{CrLf, Lf}
+use Rattle.std.specs.Prelude.{◌≡◌, Bool, true, false, List, [], ◌∷◌, ◌++◌, ℕ, ◌+◌, ◌*◌, take, drop, Some, None}
 use Rattle.std.proofs.Math.Option.{none}
 use Prim.Native.String.{String}
 use Rattle.machine.specs.Lists.{spaces}
@@ -10,8 +12,6 @@ use Rattle.format.specs.Rules.{max_amount, most_descriptions, weighted, is_eleve
 use Rattle.format.specs.Language.{File, Rec, batch_header_rec, batch_trailer_rec, crlf, end_bytes, line_of, Reads}
 use Rattle.format.specs.Answers.{accepted, broken_line, misplaced_record, wrong_form, wrong_value, wrong_account, differs, above_maximum, ends_early, ordinary_account, beyond_limits, refusal, acceptance}
 use Rattle.format.specs.declared.Answer.{Answer}
-use Rattle.format.specs.declared.EndingSoFar.{EndingSoFar}
-use Rattle.format.specs.declared.EndingSoFar.TheVariants.{Unknown, CrLf, Lf}
 use Rattle.format.specs.declared.Kind.TheVariants.{Transaction}
 use Rattle.format.specs.declared.Group.{Group}
 use Rattle.format.specs.declared.Group.TheVariants.{Payments, Debits}
@@ -235,10 +235,10 @@ ending_cases =
     ∷ file (take 50 (example end10) ++ (32 ∷ 10 ∷ [])) (refusal broken_line 1 0)
     ∷ file (take 50 (example end10)) (refusal broken_line 1 0)
     ∷ file (take 49 (example end10) ++ (13 ∷ 10 ∷ [])) (refusal wrong_form 1 30)
-    ∷ first_line (example end1310) 52 CrLf
-    ∷ first_line (example end10) 51 Lf
-    ∷ first_line (take 50 (example end10)) 0 Unknown
-    ∷ first_line [] 0 Unknown
+    ∷ first_line (example end1310) 52 (Some CrLf)
+    ∷ first_line (example end10) 51 (Some Lf)
+    ∷ first_line (take 50 (example end10)) 0 None
+    ∷ first_line [] 0 None
     ∷ []
 
 -- 02's [2]: 0000 to an account of seven digits, of nine and of ten; 1002 from one of seven, of nine, and of nine where the beneficiary is wrong too (14 before 7); 0005 to one of nine; 0003 to one of eight, and 0000 to one that fails the eleven check (6 before 14); and the example with 123456789 as the beneficiary of its line 6

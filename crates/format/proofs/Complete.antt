@@ -1,4 +1,5 @@
 -- COMPLETE: the reader takes the records of a valid file to its end.
+use Rattle.std.specs.Prelude.{Some, None}
 use mathlib.Core.Path.{◌≡◌, refl, sym, ap, ◌∙◌, subst}
 use mathlib.Core.Bool.{Bool, true, false, not, ◌&&◌, ◌||◌}
 use mathlib.Core.List.{List, [], ◌∷◌}
@@ -12,14 +13,12 @@ use Rattle.machine.specs.Lists.{same, in_range}
 use Rattle.machine.proofs.Base.{and_i, same_refl}
 use Rattle.format.specs.Fields.{filled, Fit, Fits}
 use Rattle.format.specs.Records.{layout, Fields}
-use Rattle.format.specs.Rules.{max_amount, max_total, max_items, max_account, max_sequence, max_fixed, most_descriptions, CLIEOP03, EUR, is_seven_if, same_group, group_text, is_group, group_of, type_of, is_type, is_type_in, is_unchecked_type}
+use Rattle.format.specs.Rules.{max_amount, max_total, max_items, max_account, max_sequence, max_fixed, most_descriptions, CLIEOP03, EUR, is_seven_if, same_group, group_text, is_group, group_of, type_of, is_type, is_type_in, is_unchecked_type, TypeRead}
 use Rattle.format.specs.Language.{Name, Item, Batch, File, total_of, accounts_of, ten_digits, Rec, file_header_rec, batch_header_rec, fixed_recs, ordering_party_rec, transaction_rec, reference_recs, description_recs, city_recs, name_recs, item_recs, batches_recs, file_trailer_recs, file_recs, In, other_party, TransactionOk, ReferenceOk, DescriptionsOk, CityOk, NameOk, is_some, ItemOk, ItemsOk, Before, none_before, after_that, Follows, BatchHeaderOk, OrderingPartyOk, BatchOk, BatchesOk, Valid}
 use Rattle.format.specs.Tests.{is_next, same_group_tests, batch_header_tests, transaction_tests}
 use Rattle.format.specs.declared.Kind.TheVariants.{FileHeader, BatchHeaderB, BatchHeaderC, FixedDescription, OrderingParty, Transaction, NamePayer, CityPayer, PaymentReference, Description, NameBeneficiary, CityBeneficiary, BatchTrailer, FileTrailer}
 use Rattle.format.specs.declared.Group.{Group}
 use Rattle.format.specs.declared.Group.TheVariants.{Payments, Debits}
-use Rattle.format.specs.declared.TypeRead.{TypeRead}
-use Rattle.format.specs.declared.TypeRead.TheVariants.{Of, NoType}
 use Rattle.format.proofs.Checks.{Hold, Holds, Pass}
 use Rattle.format.proofs.Reader.{Room, fresh, left, Phase, headed, opened, ordered, paying, paid, owed, closed, Context, at, new_batch, no_batch, begin, MayEnd, unnamed_payment, named_payment, open_debit, file_header, first_batch_b, first_batch_c, next_batch_b, next_batch_c, fixed_description, ordering_party, first_item, next_item, batch_trailer, payment_reference, payment_description, payment_description_more, beneficiary_name, beneficiary_city, payer_name, payer_city, debit_reference, debit_description, debit_description_more, file_trailer, opens, add_item, maxima, Path, end, go}
 use Rattle.format.proofs.Sound.{Agree, trailed, further_items, trailed_same, item_taken, group_back}
@@ -106,8 +105,8 @@ abbrev fields_of : Item → Fields Transaction
 fields_of i = (transaction_rec i).1
 
 is_type_lem : (g : Group) (t : TypeRead) → T (is_type_in g t) → T (is_type t)
-is_type_lem g (Of y) h = tt
-is_type_lem g NoType h = absurd h
+is_type_lem g (Some y) h = tt
+is_type_lem g None h = absurd h
 
 module _ (unchecked : Bool) (i : Item) where
   payer_seven : (g : Group) → T (is_seven_if unchecked (other_party g i.payer i.beneficiary)) → T (is_seven_if (not (same_group Payments g) && unchecked) i.payer)

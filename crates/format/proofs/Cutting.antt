@@ -1,4 +1,6 @@
 -- All that is known of how lines are cut and ended. What depends on the ends there are stands first; the rest follows from it.
+use Rattle.std.specs.Prelude.{Some, None}
+use Rattle.format.specs.declared.LineEnd.TheVariants.{CrLf, Lf}
 use mathlib.Core.Path.{◌≡◌, refl, sym, ap, ap₂, ◌∙◌, subst}
 use mathlib.Core.Bool.{Bool, true, false, cond, ◌&&◌, and-true}
 use mathlib.Core.List.{List, [], ◌∷◌, ◌++◌}
@@ -14,16 +16,14 @@ use Rattle.machine.specs.Lines.{Split, Exactly, no_lines, one_more}
 use Rattle.machine.proofs.Base.{drop_take, never, same→eq, of_eq, unlike}
 use Rattle.machine.proofs.Lines.{Cuts}
 use Rattle.format.specs.Language.{Ending, crlf, lf, end_bytes}
-use Rattle.format.specs.Cutting.{is_open, ends_in, broken_cut, cut_of, next_line, after_next, lines_from, lines_in, no_ending, cut, turn}
-use Rattle.format.specs.declared.EndingSoFar.{EndingSoFar}
-use Rattle.format.specs.declared.EndingSoFar.TheVariants.{Unknown, CrLf, Lf}
+use Rattle.format.specs.Cutting.{is_open, ends_in, broken_cut, cut_of, next_line, after_next, lines_from, lines_in, no_ending, cut, turn, EndingSoFar}
 use Rattle.format.specs.declared.Cut.{Cut}
 
 -- ## The ends that there are
 
 abbrev pub ending_is : Ending → EndingSoFar
-ending_is crlf = CrLf
-ending_is lf = Lf
+ending_is crlf = Some CrLf
+ending_is lf = Some Lf
 
 -- those that are still open
 abbrev pub Open : EndingSoFar → Ending → Type 0
@@ -44,17 +44,17 @@ all_open crlf = refl
 all_open lf = refl
 
 abbrev pub an_ending : EndingSoFar → Ending
-an_ending Unknown = crlf
-an_ending CrLf = crlf
-an_ending Lf = lf
+an_ending None = crlf
+an_ending (Some CrLf) = crlf
+an_ending (Some Lf) = lf
 
 pub is_open_lem : (e : EndingSoFar) → Open e (an_ending e)
-is_open_lem Unknown = refl
-is_open_lem CrLf = refl
-is_open_lem Lf = refl
+is_open_lem None = refl
+is_open_lem (Some CrLf) = refl
+is_open_lem (Some Lf) = refl
 
 -- none is no end
-none_closed : (e : EndingSoFar) → is_open e Unknown ≡ true → ⊥
+none_closed : (e : EndingSoFar) → is_open e None ≡ true → ⊥
 none_closed e o = never o
 
 -- bytes tell their end

@@ -1,10 +1,8 @@
 -- NOT MORE THAN THIRTY DAYS AHEAD (02): days by the calendar, and the desired dates that an arrival date lets pass.
-use Rattle.std.specs.Prelude.{Bool, true, ◌&&◌, ◌||◌, List, [], ◌∷◌, ℕ, zero, suc, ◌+◌, ◌-◌, ◌/◌, ◌%◌, T, eqb, ℤ, pos, ◌-ℤ◌}
+use Rattle.std.specs.Prelude.{Bool, true, ◌&&◌, ◌||◌, List, [], ◌∷◌, ℕ, zero, suc, ◌+◌, ◌-◌, ◌/◌, ◌%◌, T, eqb, ℤ, pos, ◌-ℤ◌, Some, None, Option}
 use Rattle.std.specs.Int.Signed.{le_z}
 use Rattle.format.specs.Rules.{days_in, is_date}
 use Rattle.format.specs.Tests.{Test, test}
-use Rattle.format.specs.declared.Arrival.{Arrival}
-use Rattle.format.specs.declared.Arrival.TheVariants.{NotGiven, On}
 
 -- ## Days by the calendar
 
@@ -28,6 +26,10 @@ days_ahead arrival desired = pos (day_number desired) -ℤ pos (day_number arriv
 
 -- ## By the arrival date
 
+-- the date on which a file arrives: none where it is read without one
+abbrev pub Arrival : Type 0
+Arrival = Option ℕ
+
 -- 'Zero to 30 passes'
 unfoldable pub is_near : ℤ → Bool
 is_near days = le_z (pos 0) days && le_z days (pos 30)
@@ -38,13 +40,13 @@ is_timely arrival desired = eqb desired 0 || (is_date arrival && is_near (days_a
 
 -- 'A file read without an arrival date is judged as before': of it every desired date is in time
 abbrev pub InTime : Arrival → ℕ → Type 0
-InTime NotGiven desired = Unit {0}
-InTime (On arrival) desired = T (is_timely arrival desired)
+InTime None desired = Unit {0}
+InTime (Some arrival) desired = T (is_timely arrival desired)
 
 -- 'an impossible arrival date': one that does not exist, zeros too; none given is none
 unfoldable pub is_possible : Arrival → Bool
-is_possible NotGiven = true
-is_possible (On arrival) = is_date arrival
+is_possible None = true
+is_possible (Some arrival) = is_date arrival
 
 -- '21, fewer than zero or more than 30 days'
 abbrev pub untimely_date : ℕ
@@ -52,5 +54,5 @@ untimely_date = 21
 
 -- by the arrival date, if any
 abbrev pub arrival_tests : Arrival → ℕ → List Test
-arrival_tests NotGiven v = []
-arrival_tests (On arrival) v = test (is_timely arrival v) untimely_date ∷ []
+arrival_tests None v = []
+arrival_tests (Some arrival) v = test (is_timely arrival v) untimely_date ∷ []

@@ -1,22 +1,26 @@
 -- The lines of a file: 50 characters and then the end, which the first line fixes for all.
-use Rattle.std.specs.Prelude.{Bool, true, false, cond, List, [], ◌∷◌, ℕ, zero, suc, ◌-◌, take, drop}
+use Rattle.std.specs.Prelude.{Bool, true, false, cond, List, [], ◌∷◌, ℕ, zero, suc, ◌-◌, take, drop, Some, None, Option}
 use Rattle.std.proofs.Math.Option.{none, some}
 use Rattle.machine.specs.Lists.{pick, same}
 use Rattle.machine.specs.Lines.{Split, front, Exactly}
 use Rattle.format.specs.Language.{Ending, crlf, lf, end_bytes}
-pub use Rattle.format.specs.declared.EndingSoFar.{EndingSoFar}
-use Rattle.format.specs.declared.EndingSoFar.TheVariants.{Unknown, CrLf, Lf}
+use Rattle.format.specs.declared.LineEnd.{LineEnd}
+use Rattle.format.specs.declared.LineEnd.TheVariants.{CrLf, Lf}
 use Rattle.format.specs.declared.Cut.{Cut}
+
+-- how lines end: unknown before the first line, which fixes it, and of a line that has neither end
+abbrev pub EndingSoFar : Type 0
+EndingSoFar = Option LineEnd
 
 -- after lines that end so, a line that ends so may follow: 'The first line fixes which, and the other ending later is a broken line'
 abbrev pub is_open : EndingSoFar → EndingSoFar → Bool
-is_open e Unknown = false
-is_open Unknown CrLf = true
-is_open Unknown Lf = true
-is_open CrLf CrLf = true
-is_open CrLf Lf = false
-is_open Lf CrLf = false
-is_open Lf Lf = true
+is_open e None = false
+is_open None (Some CrLf) = true
+is_open None (Some Lf) = true
+is_open (Some CrLf) (Some CrLf) = true
+is_open (Some CrLf) (Some Lf) = false
+is_open (Some Lf) (Some CrLf) = false
+is_open (Some Lf) (Some Lf) = true
 
 -- after 50 characters there is this end, and no more
 abbrev pub ends_in : Ending → List ℕ → Bool
@@ -24,13 +28,13 @@ ends_in z c = same (drop 50 c) (end_bytes z)
 
 -- a line that neither end fits: as many bytes as a line can have
 abbrev pub broken_cut : Cut
-broken_cut = record { bytes = 52; ending = Unknown }
+broken_cut = record { bytes = 52; ending = None }
 
 -- THE CUT of the first line of some bytes: how many it takes, and how it ends
 unfoldable pub cut_of : List ℕ → Cut
 cut_of b =
-    pick (ends_in lf (take 51 b)) (record { bytes = 51; ending = Lf })
-    (pick (ends_in crlf (take 52 b)) (record { bytes = 52; ending = CrLf })
+    pick (ends_in lf (take 51 b)) (record { bytes = 51; ending = Some Lf })
+    (pick (ends_in crlf (take 52 b)) (record { bytes = 52; ending = Some CrLf })
     broken_cut)
 
 -- the bytes of the first line, or as many as there are, and the bytes after it
@@ -52,7 +56,7 @@ lines_in b = lines_from 0 b
 -- ## Whole lines, for the reader of lines
 
 abbrev pub no_ending : EndingSoFar
-no_ending = Unknown
+no_ending = None
 
 -- a line fixes the ending
 abbrev pub turn : EndingSoFar → List ℕ → EndingSoFar

@@ -1,5 +1,5 @@
 -- The record table (01, 'Record table'): each kind's code and variant, and its fields after column 5 in their order.
-use Rattle.std.specs.Prelude.{List, [], ◌∷◌, ℕ}
+use Rattle.std.specs.Prelude.{List, [], ◌∷◌, ℕ, Option}
 use Rattle.format.specs.Fields.{Field, numeric, filled, optional, free, filler, Values}
 use Rattle.format.specs.declared.Kind.{Kind}
 use Rattle.format.specs.declared.Kind.TheVariants.{FileHeader, BatchHeaderB, BatchHeaderC, FixedDescription, OrderingParty, Transaction, NamePayer, CityPayer, PaymentReference, Description, NameBeneficiary, CityBeneficiary, BatchTrailer, FileTrailer}
@@ -113,3 +113,7 @@ total_accounts x = x.1.0
 
 abbrev pub items : Fields BatchTrailer → ℕ
 items x = x.1.1.0
+
+-- what the first five characters of a line stand for: a kind, or none
+abbrev pub Code : Type 0
+Code = Option Kind

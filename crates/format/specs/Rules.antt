@@ -1,13 +1,11 @@
 -- The rules of single values (01, 'Field rules').
-use Rattle.std.specs.Prelude.{Bool, true, false, not, ◌&&◌, ◌||◌, List, [], ◌∷◌, ℕ, zero, suc, ◌+◌, ◌*◌, ◌/◌, ◌%◌, take, drop, leb, eqb}
+use Rattle.std.specs.Prelude.{Bool, true, false, not, ◌&&◌, ◌||◌, List, [], ◌∷◌, ℕ, zero, suc, ◌+◌, ◌*◌, ◌/◌, ◌%◌, take, drop, leb, eqb, Some, None, Option}
 use Rattle.machine.specs.Lists.{pick, all, same, is_digit, in_range}
 use Rattle.machine.specs.Digits.{value_of}
 use Rattle.format.specs.declared.Group.{Group}
 use Rattle.format.specs.declared.Group.TheVariants.{Payments, Debits}
 use Rattle.format.specs.declared.TransactionType.{TransactionType}
 use Rattle.format.specs.declared.TransactionType.TheVariants.{UncheckedCreditor, UncheckedSalary, Creditor, Salary, Debit, UncheckedDebit}
-use Rattle.format.specs.declared.TypeRead.{TypeRead}
-use Rattle.format.specs.declared.TypeRead.TheVariants.{Of, NoType}
 
 -- ## Maxima
 
@@ -144,19 +142,23 @@ type_text Salary = 48 ∷ 48 ∷ 48 ∷ 56 ∷ []
 type_text Debit = 49 ∷ 48 ∷ 48 ∷ 49 ∷ []
 type_text UncheckedDebit = 49 ∷ 48 ∷ 48 ∷ 50 ∷ []
 
+-- what the four characters of a type stand for: one of the six, or none
+abbrev pub TypeRead : Type 0
+TypeRead = Option TransactionType
+
 unfoldable pub type_of : List ℕ → TypeRead
 type_of t =
-    pick (same t (type_text UncheckedCreditor)) (Of UncheckedCreditor)
-    (pick (same t (type_text UncheckedSalary)) (Of UncheckedSalary)
-    (pick (same t (type_text Creditor)) (Of Creditor)
-    (pick (same t (type_text Salary)) (Of Salary)
-    (pick (same t (type_text Debit)) (Of Debit)
-    (pick (same t (type_text UncheckedDebit)) (Of UncheckedDebit)
-    NoType)))))
+    pick (same t (type_text UncheckedCreditor)) (Some UncheckedCreditor)
+    (pick (same t (type_text UncheckedSalary)) (Some UncheckedSalary)
+    (pick (same t (type_text Creditor)) (Some Creditor)
+    (pick (same t (type_text Salary)) (Some Salary)
+    (pick (same t (type_text Debit)) (Some Debit)
+    (pick (same t (type_text UncheckedDebit)) (Some UncheckedDebit)
+    None)))))
 
 abbrev pub is_type : TypeRead → Bool
-is_type (Of y) = true
-is_type NoType = false
+is_type (Some y) = true
+is_type None = false
 
 -- group 00 for the first four, 10 for the others
 abbrev pub type_group : TransactionType → Group
@@ -174,8 +176,8 @@ same_group Debits Payments = false
 same_group Debits Debits = true
 
 abbrev pub is_type_in : Group → TypeRead → Bool
-is_type_in g (Of y) = same_group g (type_group y)
-is_type_in g NoType = false
+is_type_in g (Some y) = same_group g (type_group y)
+is_type_in g None = false
 
 -- 'Types 0000, 0003 (group 00) and 1002 (group 10) are unchecked'
 abbrev pub is_unchecked : TransactionType → Bool
@@ -187,5 +189,5 @@ is_unchecked Debit = false
 is_unchecked UncheckedDebit = true
 
 abbrev pub is_unchecked_type : TypeRead → Bool
-is_unchecked_type (Of y) = is_unchecked y
-is_unchecked_type NoType = false
+is_unchecked_type (Some y) = is_unchecked y
+is_unchecked_type None = false

@@ -4,12 +4,11 @@ use Rattle.std.proofs.Math.Option.{Option, none, some}
 use Rattle.machine.specs.Lists.{same, in_range}
 use Rattle.format.specs.Fields.{Field}
 use Rattle.format.specs.Records.{layout, Fields, creation_date, file_name, identification, duplicate_code, group, ordering_account, sequence, currency, name_code, desired_date, test_code, type, amount, payer, beneficiary, total_amount, total_accounts, items}
-use Rattle.format.specs.Rules.{max_amount, max_total, max_items, max_account, max_sequence, CLIEOP03, EUR, is_test_code, is_date, is_desired_date, is_identification, is_of_day, is_ordering_account, is_account, is_own_if, is_seven_if, same_group, group_text, is_group, is_name_code_in, type_of, is_type, is_type_in, is_unchecked_type}
+use Rattle.format.specs.Rules.{max_amount, max_total, max_items, max_account, max_sequence, CLIEOP03, EUR, is_test_code, is_date, is_desired_date, is_identification, is_of_day, is_ordering_account, is_account, is_own_if, is_seven_if, same_group, group_text, is_group, is_name_code_in, type_of, is_type, is_type_in, is_unchecked_type, TypeRead}
 use Rattle.format.specs.Answers.{wrong_value, wrong_account, differs, above_maximum, wrong_trailer, ordinary_account}
 use Rattle.format.specs.declared.Kind.TheVariants.{FileHeader, BatchHeaderB, OrderingParty, Transaction, BatchTrailer}
 use Rattle.format.specs.declared.Group.{Group}
 use Rattle.format.specs.declared.Group.TheVariants.{Payments, Debits}
-use Rattle.format.specs.declared.TypeRead.{TypeRead}
 
 -- a test of a value, and the answer where it fails
 pub data Test : Type 0 where

@@ -5,13 +5,12 @@
 ghost use Rattle.std.specs.Prelude.{◌≡◌};
 ghost use Rattle.format.specs.Answers.{refusal, acceptance};
 ghost use Rattle.format.specs.Cutting.{is_open, broken_cut, cut_of};
-ghost use Rattle.format.specs.declared.EndingSoFar.TheVariants.{CrLf, Lf};
 ghost use Rattle.format.specs.Rules.{most_descriptions};
 
 pub mod codes;
 
 // A record's code and variant (01, 'Record table').
-#[derive(Clone, Copy)]
+#[derive(Clone, Copy, PartialEq, Eq)]
 pub enum Kind {
     FileHeader,
     BatchHeaderB,
@@ -30,14 +29,14 @@ pub enum Kind {
 }
 
 // Group 00, payments, and group 10, debits.
-#[derive(Clone, Copy)]
+#[derive(Clone, Copy, PartialEq, Eq)]
 pub enum Group {
     Payments,
     Debits,
 }
 
 // 0000, 0003, 0005, 0008 of group 00; 1001, 1002 of group 10.
-#[derive(Clone, Copy)]
+#[derive(Clone, Copy, PartialEq, Eq)]
 pub enum TransactionType {
     UncheckedCreditor,
     UncheckedSalary,
@@ -45,20 +44,6 @@ pub enum TransactionType {
     Salary,
     Debit,
     UncheckedDebit,
-}
-
-// What the four characters of a type stand for.
-#[derive(Clone, Copy)]
-pub enum TypeRead {
-    Of(TransactionType),
-    NoType,
-}
-
-// What the first five characters of a line stand for.
-#[derive(Clone, Copy)]
-pub enum Code {
-    Of(Kind),
-    Unknown,
 }
 
 // What is answered: a number of 01's table, the line and the column that it names, each 0 where it names none.
@@ -92,11 +77,10 @@ impl Answer {
     }
 }
 
-// How lines end: with 13 and 10, or with 10 alone. It is unknown before the first line, which fixes it, and of a line
+// How lines end: with 13 and 10, or with 10 alone. None is known before the first line, which fixes it, and of a line
 // that has neither end.
-#[derive(Clone, Copy)]
-pub enum EndingSoFar {
-    Unknown,
+#[derive(Clone, Copy, PartialEq, Eq)]
+pub enum LineEnd {
     CrLf,
     Lf,
 }
@@ -105,14 +89,7 @@ pub enum EndingSoFar {
 #[derive(Clone, Copy)]
 pub struct Cut {
     pub bytes: usize,
-    pub ending: EndingSoFar,
-}
-
-// The date on which a file arrives, as ddmmyy: none where it is read without one.
-#[derive(Clone, Copy)]
-pub enum Arrival {
-    NotGiven,
-    On(u64),
+    pub ending: Option<LineEnd>,
 }
 
 // The numbers of 01's table.
@@ -164,36 +141,14 @@ pub fn most_descriptions(reference: bool) -> u64
     MAX_DESCRIPTIONS
 }
 
-fn is_open_to_13_10(e: EndingSoFar) -> bool
-    ensures { result ≡ is_open e CrLf }
+// Whether a line that ends so may follow lines that end so far as they do.
+pub fn is_open(so_far: Option<LineEnd>, line: Option<LineEnd>) -> bool
+    ensures { result ≡ is_open so_far line }
 {
-    match e {
-        EndingSoFar::Unknown => true,
-        EndingSoFar::CrLf => true,
-        EndingSoFar::Lf => false,
-    }
-}
-
-fn is_open_to_10(e: EndingSoFar) -> bool
-    ensures { result ≡ is_open e Lf }
-{
-    match e {
-        EndingSoFar::Unknown => true,
-        EndingSoFar::CrLf => false,
-        EndingSoFar::Lf => true,
-    }
-}
-
-impl EndingSoFar {
-    // Whether a line that ends so may follow.
-    pub fn is_open(self, line: EndingSoFar) -> bool
-        ensures { result ≡ is_open self line }
-    {
-        match line {
-            EndingSoFar::Unknown => false,
-            EndingSoFar::CrLf => is_open_to_13_10(self),
-            EndingSoFar::Lf => is_open_to_10(self),
-        }
+    match (so_far, line) {
+        (_, None) => false,
+        (None, Some(_)) => true,
+        (Some(a), Some(b)) => a == b,
     }
 }
 
@@ -203,7 +158,7 @@ fn broken() -> Cut
 {
     Cut {
         bytes: 52,
-        ending: EndingSoFar::Unknown,
+        ending: None,
     }
 }
 
@@ -217,7 +172,7 @@ pub fn cut_of(rest: &[u8]) -> Cut
     if rest[50] == 10 {
         return Cut {
             bytes: 51,
-            ending: EndingSoFar::Lf,
+            ending: Some(LineEnd::Lf),
         };
     }
     if rest.len() < 52 {
@@ -226,7 +181,7 @@ pub fn cut_of(rest: &[u8]) -> Cut
     if (rest[50] == 13) & (rest[51] == 10) {
         return Cut {
             bytes: 52,
-            ending: EndingSoFar::CrLf,
+            ending: Some(LineEnd::CrLf),
         };
     }
     broken()

@@ -1,4 +1,5 @@
 -- What asking for an item promises. Assumes nothing.
+use Rattle.std.specs.Prelude.{Some, None}
 use Prim.Native.Nat.{ℕ, zero, suc, ◌+◌, ◌≤◌}
 use mathlib.Core.Path.{◌≡◌, refl, sym, ◌∙◌, ap, ap₂, subst}
 use mathlib.Core.List.{List, [], ◌∷◌, ◌++◌, append_assoc, append-nil}
@@ -11,13 +12,11 @@ use lib.Seq.{take_at, take-append-le}
 use lib.Dec.{T, leb}
 use Rattle.machine.proofs.Base.{none≢some}
 use Rattle.machine.specs.Lists.{pick, spaces}
-use Rattle.format.specs.Rules.{most_descriptions, type_of, is_type_in, is_unchecked_type, is_type}
+use Rattle.format.specs.Rules.{most_descriptions, type_of, is_type_in, is_unchecked_type, is_type, TypeRead}
 use Rattle.format.specs.Language.{Name, Item, Batch, File, Reads, file_recs, ReferenceOk, DescriptionsOk, NameOk, is_some, ItemOk, ItemsOk, Before, none_before, after_that, BatchOk, BatchesOk}
 use Rattle.format.specs.Cutting.{lines_in, AreLines}
 use Rattle.format.specs.Statements.{InLanguage}
 use Rattle.format.specs.declared.Group.{Group}
-use Rattle.format.specs.declared.TypeRead.{TypeRead}
-use Rattle.format.specs.declared.TypeRead.TheVariants.{Of, NoType}
 use Rattle.format.proofs.Complete.{complete}
 use Rattle.record.specs.Read.{transaction_for}
 use Rattle.record.specs.declared.TransactionFields.{TransactionFields}
@@ -91,8 +90,8 @@ module _ (t : TransactionFields) (fx ts : List (List ℕ)) where
   texts_found_lem (some u) (some m) = refl
 
 kind_found : (g : Group) (y : TypeRead) → T (is_type_in g y) → is_type y ≡ true
-kind_found g (Of y) h = refl
-kind_found g NoType h = absurd h
+kind_found g (Some y) h = refl
+kind_found g None h = absurd h
 
 -- what was found is this item, or nothing
 abbrev Finds : Found → Option ItemAt → Type 0

@@ -1,9 +1,8 @@
 -- HOW THE ANSWER IS FOUND: the search for item k of batch b, each from 1, through a file's lines. What to believe of the answer is said in Promises.antt.
-use Rattle.std.specs.Prelude.{ℕ, ◌-◌, List, [], ◌∷◌, ◌++◌, Bool, true, false, take, drop, eqb}
+use Rattle.std.specs.Prelude.{ℕ, ◌-◌, List, [], ◌∷◌, ◌++◌, Bool, true, false, take, drop, eqb, None}
 use Rattle.machine.specs.Lists.{pick, spaces}
 use Rattle.format.specs.declared.Kind.{Kind}
 use Rattle.format.specs.declared.Kind.TheVariants.{FixedDescription, Transaction, NamePayer, PaymentReference, Description}
-use Rattle.format.specs.declared.TypeRead.TheVariants.{NoType}
 use Rattle.record.specs.Kinds.{begins, is_name, is_header}
 use Rattle.record.specs.Read.{transaction_for, text_part, values_of}
 use Rattle.record.specs.declared.TransactionFields.{TransactionFields}
@@ -20,7 +19,7 @@ filled_to n t = take n (t ++ spaces n)
 
 -- 'With a refusal no fields are handed out: numbers are zero, texts spaces'
 abbrev pub no_fields : ItemFields
-no_fields = record { kind = NoType; amount = 0; payer = 0; beneficiary = 0; reference = spaces 16; name = spaces 24 }
+no_fields = record { kind = None; amount = 0; payer = 0; beneficiary = 0; reference = spaces 16; name = spaces 24 }
 
 abbrev pub nothing_found : Found
 nothing_found = record { fixed = no_texts; own = no_texts; referred = false; fields = no_fields }

@@ -9,15 +9,15 @@ ghost use Rattle.items.specs.Promises.{Promised};
 use crate::{Found, ItemRead, Search, no_fields};
 use descriptions::merge;
 use field::bytes::put;
-use format::{Answer, TypeRead};
+use format::{Answer, TransactionType};
 use record::Batch;
 
-fn is_found(kind: TypeRead) -> bool
+fn is_found(kind: Option<TransactionType>) -> bool
     ensures { result ≡ is_type kind }
 {
     match kind {
-        TypeRead::Of(_) => true,
-        TypeRead::NoType => false,
+        Some(_) => true,
+        None => false,
     }
 }
 

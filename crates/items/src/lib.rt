@@ -5,7 +5,7 @@ ghost use Rattle.std.specs.Prelude.{◌≡◌};
 ghost use Rattle.items.specs.Search.{no_fields};
 
 use descriptions::Descriptions;
-use format::{Answer, TypeRead};
+use format::{Answer, TransactionType};
 
 mod answer;
 mod findings;
@@ -17,7 +17,7 @@ pub use answer::item;
 // An item's own fields, of its name the first 24 characters; no type, zeros and spaces where there is none.
 #[derive(Clone, Copy)]
 pub struct ItemFields {
-    pub kind: TypeRead,
+    pub kind: Option<TransactionType>,
     pub amount: u64,
     pub payer: u64,
     pub beneficiary: u64,
@@ -56,7 +56,7 @@ fn no_fields() -> ItemFields
     ensures { result ≡ no_fields }
 {
     ItemFields {
-        kind: TypeRead::NoType,
+        kind: None,
         amount: 0,
         payer: 0,
         beneficiary: 0,

@@ -4,7 +4,7 @@
 
 use field::bytes::{is_digits, part};
 use field::numbers::Digits;
-use format::{Answer, TypeRead};
+use format::Answer;
 use items::{ItemFields, ItemRead, Search};
 use page::Page;
 use reading::State;
@@ -29,20 +29,17 @@ struct Sought {
 
 // The item, where there is one.
 fn put_item(page: &mut Page<PAGE>, fields: ItemFields, texts: &[u8; 128]) {
-    match fields.kind {
-        TypeRead::Of(kind) => {
-            page.line(b"type=", &type_text(kind));
-            page.number(b"amount=", fields.amount, 1);
-            page.number(b"payer=", fields.payer, 10);
-            page.number(b"beneficiary=", fields.beneficiary, 10);
-            page.line(b"reference=", &fields.reference);
-            page.line(b"name=", &fields.name);
-            page.line(b"description1=", &texts[..32]);
-            page.line(b"description2=", &texts[32..64]);
-            page.line(b"description3=", &texts[64..96]);
-            page.line(b"description4=", &texts[96..]);
-        }
-        TypeRead::NoType => {}
+    if let Some(kind) = fields.kind {
+        page.line(b"type=", &type_text(kind));
+        page.number(b"amount=", fields.amount, 1);
+        page.number(b"payer=", fields.payer, 10);
+        page.number(b"beneficiary=", fields.beneficiary, 10);
+        page.line(b"reference=", &fields.reference);
+        page.line(b"name=", &fields.name);
+        page.line(b"description1=", &texts[..32]);
+        page.line(b"description2=", &texts[32..64]);
+        page.line(b"description3=", &texts[64..96]);
+        page.line(b"description4=", &texts[96..]);
     }
 }
 

@@ -1,4 +1,6 @@
 -- The line reader and the whole file over the lines judged. Assumes nothing.
+use Rattle.format.specs.Records.{Code}
+use Rattle.std.specs.Prelude.{Some, None}
 use Prim.Native.Nat.{ℕ, ◌+◌, ◌≤◌, ◌<◌}
 use mathlib.Core.Path.{◌≡◌, refl, sym, ap, ◌∙◌, subst}
 use mathlib.Core.List.{List, [], ◌∷◌}
@@ -14,8 +16,6 @@ use Rattle.format.specs.Cutting.{next_line, lines_in}
 use Rattle.format.specs.Answers.{refusal, acceptance}
 use Rattle.format.specs.declared.Answer.{Answer}
 use Rattle.format.specs.declared.Kind.{Kind}
-use Rattle.format.specs.declared.Code.{Code}
-use Rattle.format.specs.declared.Code.TheVariants.{Of, Unknown}
 use Rattle.format.proofs.Cutting.{lines_one}
 use Rattle.record.specs.Faults.{fields_of, fault_of}
 use Rattle.record.specs.Read.{record_for, text_for, values_of}
@@ -84,12 +84,12 @@ unfolding pick
 named_fits n l d f h e = let k : l + 1 ≤ 6999369996 = rw (ne_eqb n 24 h) at f in omega (arith, leb-true d 9 e)
 
 -- what the judging says of a line that is taken, and of one that is refused
-code_fault : {s : State} {xs : List ℕ} {j : Judged} → First s xs j → (k : Kind) → j.code ≡ Of k → (fault_of s.before s.batch k (take 50 xs)).number ≡ 0
+code_fault : {s : State} {xs : List ℕ} {j : Judged} → First s xs j → (k : Kind) → j.code ≡ Some k → (fault_of s.before s.batch k (take 50 xs)).number ≡ 0
 code_fault (beyond w) k e = absurd (let z : ◌≡◌ {A = ℕ} 0 1 = cc in omega arith)
 code_fault (halted w c n z) k e = absurd (let z : ◌≡◌ {A = ℕ} 0 1 = cc in omega arith)
 code_fault {s} {xs} (moved w m c a f) k e = let q : m ≡ k = cc in subst (λ i. (fault_of s.before s.batch i (take 50 xs)).number ≡ 0) q f
 
-refused_line : {s : State} {xs : List ℕ} {j : Judged} → First s xs j → j.code ≡ Unknown → (j.number ≡ 24 → ⊥) → j.next.line ≤ 6999369995
+refused_line : {s : State} {xs : List ℕ} {j : Judged} → First s xs j → j.code ≡ None → (j.number ≡ 24 → ⊥) → j.next.line ≤ 6999369995
 refused_line {s} (beyond w) e n = absurd (n refl)
 refused_line {s} (halted w c n z) e m = within_line s w
 refused_line (moved w k c a f) e n = absurd (let z : ◌≡◌ {A = ℕ} 0 1 = cc in omega arith)
@@ -104,16 +104,16 @@ module _ {p : List ℕ} {j : Judged} (s : State) (xs : List ℕ) (h : length xs 
   by_first : First s xs j
   by_first = subst (First s xs) (sym is_first) (first s xs)
 
-  pub line_named : {c : Code} → c ≡ j.code → c ≡ Unknown → refusal_line j.number j.next.line ≤ 6999369996
+  pub line_named : {c : Code} → c ≡ j.code → c ≡ None → refusal_line j.number j.next.line ≤ 6999369996
   line_named u q = name_small j.number j.next.line (refused_line by_first (sym u ∙ q))
 
   step_is : step_at s xs ≡ read_by (take 50 xs) j.code j
   step_is = step_first s xs some ∙ ap (λ (i : Judged). read_by (take 50 xs) i.code i) (sym is_first)
 
-  pub step_refused : {x : LineRead} {n : ℕ} {a : Answer} {c : Code} → c ≡ j.code → c ≡ Unknown → n ≡ refusal_line j.number j.next.line → a ≡ refusal j.number n j.column → x ≡ nothing_read j.next a → x ≡ step_at s xs
+  pub step_refused : {x : LineRead} {n : ℕ} {a : Answer} {c : Code} → c ≡ j.code → c ≡ None → n ≡ refusal_line j.number j.next.line → a ≡ refusal j.number n j.column → x ≡ nothing_read j.next a → x ≡ step_at s xs
   step_refused u q l f k = k ∙ ap (nothing_read j.next) (f ∙ ap (λ m. refusal j.number m j.column) l) ∙ sym (step_is ∙ ap (λ i. read_by (take 50 xs) i j) (sym u ∙ q))
 
-  pub step_taken : {a : Answer} {r : Record} {t l : List ℕ} {c : Code} (k : Kind) → c ≡ j.code → c ≡ Of k → l ≡ take 50 xs → a ≡ acceptance j.next.line → r ≡ record_for k (values_of k l) → t ≡ text_for k (values_of k l)
+  pub step_taken : {a : Answer} {r : Record} {t l : List ℕ} {c : Code} (k : Kind) → c ≡ j.code → c ≡ Some k → l ≡ take 50 xs → a ≡ acceptance j.next.line → r ≡ record_for k (values_of k l) → t ≡ text_for k (values_of k l)
       → ◌≡◌ {A = LineRead} (record { answer = a; next = j.next; bytes = j.bytes; read = r; text = t }) (step_at s xs)
   step_taken {r = r} {t = t} k u q v n f g =
       let w = ap (values_of k) v ∙ valued s.before s.batch k (take 50 xs) (code_fault by_first k (sym u ∙ q)) in

@@ -5,10 +5,9 @@ use mathlib.Core.List.{List, ◌++◌}
 use lib.ListN.{length, take, length-append}
 use lib.Seq.{take_at, drop_at}
 use Rattle.format.specs.Language.{Ending, end_bytes}
-use Rattle.format.specs.Cutting.{is_open}
+use Rattle.format.specs.Cutting.{is_open, EndingSoFar}
 use Rattle.format.specs.Records.{Fields}
 use Rattle.format.specs.declared.Cut.{Cut}
-use Rattle.format.specs.declared.EndingSoFar.{EndingSoFar}
 use Rattle.format.specs.declared.Kind.{Kind}
 use Rattle.format.proofs.Cutting.{Open, Line, line_cut, whole_fifty}
 use Rattle.format.proofs.Every.{every}

@@ -1,4 +1,5 @@
 -- The judging of a line from what calls answered, and the limits after it. Assumes nothing.
+use Rattle.std.specs.Prelude.{Some, None}
 use Prim.Native.Nat.{ℕ, ◌+◌, ◌≤◌, ◌<◌, zero-le}
 use mathlib.Core.Path.{◌≡◌, refl, sym, ap, ◌∙◌, subst}
 use mathlib.Core.List.{List}
@@ -9,14 +10,12 @@ use lib.ListN.{take}
 use lib.Dec.{eqb}
 use Rattle.machine.specs.Lists.{pick}
 use Rattle.machine.proofs.Base.{and_second, never, true≢false}
-use Rattle.format.specs.Records.{Fields}
+use Rattle.format.specs.Records.{Fields, Code}
 use Rattle.format.specs.Rules.{max_fixed, max_descriptions, most_descriptions}
 use Rattle.format.specs.Cutting.{is_open, cut_of}
 use Rattle.format.specs.declared.Kind.{Kind}
 use Rattle.format.specs.declared.Kind.TheVariants.{FileHeader, BatchHeaderB, BatchHeaderC, FixedDescription, OrderingParty, Transaction, NamePayer, CityPayer, PaymentReference, Description, NameBeneficiary, CityBeneficiary, BatchTrailer, FileTrailer}
-use Rattle.format.specs.declared.Code.{Code}
 use Rattle.format.specs.declared.Cut.{Cut}
-use Rattle.format.specs.declared.Code.TheVariants.{Of, Unknown}
 use Rattle.record.specs.Kinds.{is_transaction, is_batch_trailer, code_of}
 use Rattle.record.specs.Faults.{fields_of, maxima_fault, fault_of, other_fault}
 use Rattle.record.specs.Read.{transaction_for, transaction_of, values_of}
@@ -39,7 +38,7 @@ use Rattle.reading.proofs.Limits.{bounded_facts, bounded_test, within_limited, g
 use Rattle.reading.proofs.Verdicts.{next_totals, is_trailer, First, beyond, halted, moved, first}
 
 -- with the state as it was
-pub refused_with : {u : State} (s : State) (column number : ℕ) → u ≡ s → ◌≡◌ {A = Judged} (record { number = number; column = column; bytes = 0; code = Unknown; next = u }) (refused s column number)
+pub refused_with : {u : State} (s : State) (column number : ℕ) → u ≡ s → ◌≡◌ {A = Judged} (record { number = number; column = column; bytes = 0; code = None; next = u }) (refused s column number)
 refused_with s column number e = ap (λ u. refused u column number) e
 
 -- ## Any kind
@@ -102,11 +101,11 @@ module _ {b : Bool} (s : State) (k : Kind) (line : List ℕ) (e : b ≡ allowed 
 
 pub ruleset kinds = (kind_pays, kind_reads, kind_stops)
 
-pub code_known : {x : Judged} {c : Code} {k : Kind} (s : State) (line : List ℕ) → c ≡ code_of (take 5 line) → c ≡ Of k → x ≡ judged_kind s k line → x ≡ judged_line s line
+pub code_known : {x : Judged} {c : Code} {k : Kind} (s : State) (line : List ℕ) → c ≡ code_of (take 5 line) → c ≡ Some k → x ≡ judged_kind s k line → x ≡ judged_line s line
 unfolding judged_line
 code_known s line e f h = h ∙ ap (judged_code s line) (sym f ∙ e)
 
-pub code_unknown : {x : Judged} {c : Code} (s : State) (line : List ℕ) → c ≡ code_of (take 5 line) → c ≡ Unknown → x ≡ refused s 1 2 → x ≡ judged_line s line
+pub code_unknown : {x : Judged} {c : Code} (s : State) (line : List ℕ) → c ≡ code_of (take 5 line) → c ≡ None → x ≡ refused s 1 2 → x ≡ judged_line s line
 unfolding judged_line
 code_unknown s line e f h = h ∙ ap (judged_code s line) (sym f ∙ e)
 

@@ -1,4 +1,5 @@
 -- What the judging of a first line can come to, by cases. Assumes nothing.
+use Rattle.std.specs.Prelude.{Some, None}
 use Prim.Native.Nat.{ℕ, ◌+◌}
 use mathlib.Core.Path.{◌≡◌, refl, ap, ◌∙◌}
 use mathlib.Core.List.{List}
@@ -9,13 +10,11 @@ use lib.ListN.{take}
 use lib.Dec.{eqb}
 use Rattle.machine.specs.Lists.{pick}
 use Rattle.machine.proofs.Base.{never}
-use Rattle.format.specs.Records.{Fields}
+use Rattle.format.specs.Records.{Fields, Code}
 use Rattle.format.specs.Cutting.{is_open, cut_of}
 use Rattle.format.specs.declared.Kind.{Kind}
 use Rattle.format.specs.declared.Kind.TheVariants.{BatchTrailer}
-use Rattle.format.specs.declared.Code.{Code}
 use Rattle.format.specs.declared.Cut.{Cut}
-use Rattle.format.specs.declared.Code.TheVariants.{Of, Unknown}
 use Rattle.format.proofs.Every.{every}
 use Rattle.record.specs.Kinds.{is_batch_trailer, code_of}
 use Rattle.record.specs.Faults.{fields_of, fault_of}
@@ -40,23 +39,23 @@ is_trailer = every (λ k. is_batch_trailer k ≡ true → k ≡ BatchTrailer) ne
 
 pub data Verdict (s : State) (line : List ℕ) : Judged → Type 0 where
   stopped : (c n : ℕ) → (n ≡ 0 → ⊥) → Verdict s line (refused s c n)
-  went : (k : Kind) → code_of (take 5 line) ≡ Of k → allowed s k ≡ true → (fault_of s.before s.batch k line).number ≡ 0 → Verdict s line (taken k (next_for s k (fields_of k line)))
+  went : (k : Kind) → code_of (take 5 line) ≡ Some k → allowed s k ≡ true → (fault_of s.before s.batch k line).number ≡ 0 → Verdict s line (taken k (next_for s k (fields_of k line)))
 
-by_fault : (s : State) (line : List ℕ) (k : Kind) (f : Fault) → code_of (take 5 line) ≡ Of k → allowed s k ≡ true → fault_of s.before s.batch k line ≡ f → (q : Bool) → eqb f.number 0 ≡ q
+by_fault : (s : State) (line : List ℕ) (k : Kind) (f : Fault) → code_of (take 5 line) ≡ Some k → allowed s k ≡ true → fault_of s.before s.batch k line ≡ f → (q : Bool) → eqb f.number 0 ≡ q
     → Verdict s line (pick q (taken k (next_for s k (fields_of k line))) (refused s f.column f.number))
 unfolding pick
 by_fault s line k f c a e true h = went k c a (ap (λ (g : Fault). g.number) e ∙ eqb-true f.number 0 h)
 by_fault s line k f c a e false h = stopped f.column f.number (eqb-false f.number 0 h)
 
-by_place : (s : State) (line : List ℕ) (k : Kind) → code_of (take 5 line) ≡ Of k → (q : Bool) → allowed s k ≡ q → Verdict s line (pick q (judged_as s k line) (refused s 1 3))
+by_place : (s : State) (line : List ℕ) (k : Kind) → code_of (take 5 line) ≡ Some k → (q : Bool) → allowed s k ≡ q → Verdict s line (pick q (judged_as s k line) (refused s 1 3))
 unfolding pick judged_as
 by_place s line k c true h = by_fault s line k (fault_of s.before s.batch k line) c h refl (eqb (fault_of s.before s.batch k line).number 0) refl
 by_place s line k c false h = stopped 1 3 (λ e. omega arith)
 
 by_code : (s : State) (line : List ℕ) (c : Code) → code_of (take 5 line) ≡ c → Verdict s line (judged_code s line c)
 unfolding judged_kind
-by_code s line (Of k) e = by_place s line k e (allowed s k) refl
-by_code s line Unknown e = stopped 1 2 (λ z. omega arith)
+by_code s line (Some k) e = by_place s line k e (allowed s k) refl
+by_code s line None e = stopped 1 2 (λ z. omega arith)
 
 pub verdict : (s : State) (line : List ℕ) → Verdict s line (judged_line s line)
 unfolding judged_line
@@ -80,10 +79,10 @@ taken_as s k xs = taken_with (cut_of xs) (taken k (next_for s k (fields_of k (ta
 pub data First (s : State) (xs : List ℕ) : Judged → Type 0 where
   beyond : within s ≡ false → First s xs (refused s 0 24)
   halted : within s ≡ true → (c n : ℕ) → (n ≡ 0 → ⊥) → First s xs (refused s c n)
-  moved : within s ≡ true → (k : Kind) → code_of (take 5 (take 50 xs)) ≡ Of k → allowed s k ≡ true → (fault_of s.before s.batch k (take 50 xs)).number ≡ 0 → First s xs (taken_as s k xs)
+  moved : within s ≡ true → (k : Kind) → code_of (take 5 (take 50 xs)) ≡ Some k → allowed s k ≡ true → (fault_of s.before s.batch k (take 50 xs)).number ≡ 0 → First s xs (taken_as s k xs)
 
 -- a refusal leaves the state, and hands out no code
-pub refused_next : {s : State} {xs : List ℕ} {j : Judged} → First s xs j → (j.number ≡ 0 → ⊥) → (j.next ≡ s) × (j.code ≡ Unknown)
+pub refused_next : {s : State} {xs : List ℕ} {j : Judged} → First s xs j → (j.number ≡ 0 → ⊥) → (j.next ≡ s) × (j.code ≡ None)
 refused_next (beyond w) z = (refl, refl)
 refused_next (halted w c n y) z = (refl, refl)
 refused_next (moved w k c a f) z = absurd (z refl)
@@ -119,7 +118,7 @@ pub record Taken (s : State) (xs : List ℕ) : Type 0 where
   pub unended : is_done s ≡ false
   pub whole : is_open s.before.ending (cut_of xs).ending ≡ true
   pub kind : Kind
-  pub coded : code_of (take 5 (take 50 xs)) ≡ Of kind
+  pub coded : code_of (take 5 (take 50 xs)) ≡ Some kind
   pub placed : allowed s kind ≡ true
   pub faultless : (fault_of s.before s.batch kind (take 50 xs)).number ≡ 0
   pub is : judged_first s xs ≡ taken_as s kind xs
@@ -143,7 +142,7 @@ pub takes : (s : State) (xs : List ℕ) → (judged_first s xs).number ≡ 0 →
 takes s xs z = of_first s xs (judged_first s xs) (first s xs) refl (parts s xs z) z
 
 -- and back: a line with these facts is taken
-pub taken_first : (s : State) (xs : List ℕ) → within s ≡ true → is_done s ≡ false → is_open s.before.ending (cut_of xs).ending ≡ true → (k : Kind) → code_of (take 5 (take 50 xs)) ≡ Of k → allowed s k ≡ true
+pub taken_first : (s : State) (xs : List ℕ) → within s ≡ true → is_done s ≡ false → is_open s.before.ending (cut_of xs).ending ≡ true → (k : Kind) → code_of (take 5 (take 50 xs)) ≡ Some k → allowed s k ≡ true
     → (fault_of s.before s.batch k (take 50 xs)).number ≡ 0 → judged_first s xs ≡ taken_as s k xs
 unfolding judged_first judged_line judged_kind judged_as with_cut pick
 taken_first s xs a b c k d e f = rw (a, b, c, d, e, eq-eqb _ _ f)

@@ -1,18 +1,15 @@
 -- What a line is answered, from every state: the answer, the state after it, the bytes that it took, and the record handed out.
-use Rattle.std.specs.Prelude.{ℕ, ◌+◌, List, [], ◌∷◌, Bool, true, false, take, eqb}
+use Rattle.std.specs.Prelude.{ℕ, ◌+◌, List, [], ◌∷◌, Bool, true, false, take, eqb, Some, None}
 use Rattle.machine.specs.Lists.{pick}
-use Rattle.format.specs.Records.{Fields, group, ordering_account, sequence, unidentified}
+use Rattle.format.specs.Records.{Fields, group, ordering_account, sequence, unidentified, Code}
 use Rattle.format.specs.Rules.{group_of, is_unchecked_type}
 use Rattle.format.specs.Language.{ten_digits}
-use Rattle.format.specs.Cutting.{is_open, cut_of}
+use Rattle.format.specs.Cutting.{is_open, cut_of, EndingSoFar}
 use Rattle.format.specs.Answers.{accepted, broken_line, unknown_record, misplaced_record, ends_early, after_trailer, beyond_limits, refusal, acceptance}
 use Rattle.format.specs.declared.Answer.{Answer}
 use Rattle.format.specs.declared.Cut.{Cut}
-use Rattle.format.specs.declared.EndingSoFar.{EndingSoFar}
 use Rattle.format.specs.declared.Kind.{Kind}
 use Rattle.format.specs.declared.Kind.TheVariants.{FileHeader, BatchHeaderB, BatchHeaderC, FixedDescription, OrderingParty, Transaction, NamePayer, CityPayer, PaymentReference, Description, NameBeneficiary, CityBeneficiary, BatchTrailer, FileTrailer}
-use Rattle.format.specs.declared.Code.{Code}
-use Rattle.format.specs.declared.Code.TheVariants.{Of, Unknown}
 use Rattle.record.specs.Kinds.{code_of}
 use Rattle.record.specs.Faults.{after_header, empty_batch, fields_of, fault_of}
 use Rattle.record.specs.Read.{transaction_for, record_for, text_for, no_text}
@@ -121,11 +118,11 @@ next_for s FileTrailer x = moved s Done
 
 -- a refusal leaves the state
 abbrev pub refused : State → ℕ → ℕ → Judged
-refused s column number = record { number = number; column = column; bytes = 0; code = Unknown; next = s }
+refused s column number = record { number = number; column = column; bytes = 0; code = None; next = s }
 
 -- by its characters alone: the cut adds the bytes that it took and the end that it fixed (`withCut`)
 abbrev pub taken : Kind → State → Judged
-taken k next = record { number = accepted; column = 0; bytes = 0; code = Of k; next = next }
+taken k next = record { number = accepted; column = 0; bytes = 0; code = Some k; next = next }
 
 -- a line of a kind that may stand here: its first fault, or the state after it
 abbrev pub judged_by : State → Kind → List ℕ → Fault → Judged
@@ -139,8 +136,8 @@ unfoldable pub judged_kind : State → Kind → List ℕ → Judged
 judged_kind s k line = pick (allowed s k) (judged_as s k line) (refused s 1 misplaced_record)
 
 abbrev pub judged_code : State → List ℕ → Code → Judged
-judged_code s line (Of k) = judged_kind s k line
-judged_code s line Unknown = refused s 1 unknown_record
+judged_code s line (Some k) = judged_kind s k line
+judged_code s line None = refused s 1 unknown_record
 
 -- the 50 characters of a line
 unfoldable pub judged_line : State → List ℕ → Judged
@@ -184,7 +181,7 @@ abbrev pub nothing_read : State → Answer → LineRead
 nothing_read s a = record { answer = a; next = s; bytes = 0; read = Nothing; text = no_text }
 
 abbrev pub read_by : List ℕ → Code → Judged → LineRead
-read_by line (Of k) j =
+read_by line (Some k) j =
     record {
       answer = acceptance j.next.line;
       next = j.next;
@@ -192,7 +189,7 @@ read_by line (Of k) j =
       read = record_for k (fields_of k line);
       text = text_for k (fields_of k line);
     }
-read_by line Unknown j = nothing_read j.next (refusal_by j)
+read_by line None j = nothing_read j.next (refusal_by j)
 
 -- no bytes remain: 24, 10, or the end
 unfoldable pub ended_at : State → Answer

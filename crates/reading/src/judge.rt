@@ -11,7 +11,7 @@ ghost use Rattle.reading.specs.Check.{judged_after, judged_lines};
 
 use crate::{Judged, OpenItem, Stage, State};
 use field::bytes::part;
-use format::{Code, Cut, EndingSoFar, Kind, cut_of};
+use format::{Cut, Kind, LineEnd, cut_of, is_open};
 use record::faults::fault_in;
 use record::faults::item::{maxima_fault, transaction_in};
 use record::kinds::code_of;
@@ -81,7 +81,7 @@ impl State {
             number,
             column,
             bytes: 0,
-            code: Code::Unknown,
+            code: None,
             next,
         }
     }
@@ -109,7 +109,7 @@ impl State {
             number: 0,
             column: 0,
             bytes: 0,
-            code: Code::Of(Kind::Transaction),
+            code: Some(Kind::Transaction),
             next,
         }
     }
@@ -132,7 +132,7 @@ impl State {
             number: 0,
             column: 0,
             bytes: 0,
-            code: Code::Of(k),
+            code: Some(k),
             next,
         }
     }
@@ -160,8 +160,8 @@ impl State {
     {
         let code = code_of(line);
         match code {
-            Code::Of(k) => self.judge_kind(k, line),
-            Code::Unknown => self.refused(format::UNKNOWN_RECORD, 1),
+            Some(k) => self.judge_kind(k, line),
+            None => self.refused(format::UNKNOWN_RECORD, 1),
         }
     }
 
@@ -170,9 +170,7 @@ impl State {
         ensures { result ≡ is_open self.before.ending cut.ending }
     {
         let before = self.before;
-        let so_far = before.ending;
-        let ending = cut.ending;
-        so_far.is_open(ending)
+        is_open(before.ending, cut.ending)
     }
 
     // What stops a run before its next line: 24, 11, or nothing. Totals are looked at after a batch alone: nothing else
@@ -230,7 +228,7 @@ impl State {
 }
 
 impl State {
-    fn with_ending(self, ending: EndingSoFar) -> State
+    fn with_ending(self, ending: Option<LineEnd>) -> State
         ensures { result ≡ with_ending ending self }
     {
         let last = self.before;

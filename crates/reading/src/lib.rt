@@ -4,7 +4,7 @@
 ghost use Rattle.std.specs.Prelude.{◌≡◌};
 ghost use Rattle.reading.specs.State.{no_item, start_state};
 
-use format::{Answer, Code};
+use format::{Answer, Kind};
 use record::{Batch, Before, Record, Totals};
 
 mod judge;
@@ -62,7 +62,7 @@ pub struct Judged {
     pub number: u8,
     pub column: u8,
     pub bytes: usize,
-    pub code: Code,
+    pub code: Option<Kind>,
     pub next: State,
 }
 

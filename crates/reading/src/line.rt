@@ -6,7 +6,7 @@ ghost use Rattle.reading.specs.Step.{refusal_line, nothing_read, ended_at, step_
 use crate::judge::is_within;
 use crate::{LineRead, State};
 use field::bytes::{next_line, part};
-use format::{Answer, Code};
+use format::{Answer, Kind};
 use record::Record;
 use record::read::{record_in, text_in};
 
@@ -61,14 +61,14 @@ impl State {
         let next = j.next;
         let code = j.code;
         match code {
-            Code::Of(k) => LineRead {
+            Some(k) => LineRead {
                 answer: Answer::accepted(next.line),
                 next,
                 bytes: j.bytes,
                 read: record_in(k, line),
                 text: text_in(k, line),
             },
-            Code::Unknown => {
+            None => {
                 let named = refusal_line(j.number, next.line);
                 next.nothing_read(Answer::refusal(j.number, named, j.column))
             }

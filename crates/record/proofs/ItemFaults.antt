@@ -1,4 +1,5 @@
 -- The first fault of a transaction, from what calls answered of its fields, and a batch's maxima. Assumes nothing.
+use Rattle.std.specs.Prelude.{Some, None}
 use Prim.Native.Nat.{ℕ, ◌+◌, ◌-◌, ◌<◌, ◌≤◌, zero-le}
 use mathlib.Core.Path.{◌≡◌, refl, sym, ap, ap₂, ◌∙◌}
 use mathlib.Core.List.{List, [], ◌∷◌}
@@ -13,13 +14,11 @@ use Rattle.machine.specs.Digits.{value_of}
 use Rattle.format.specs.Fields.{Field, numeric, filled, filler, width, well_formed}
 use Rattle.format.specs.Answers.{above_maximum}
 use Rattle.format.specs.Records.{layout, type, amount}
-use Rattle.format.specs.Rules.{max_amount, max_total, max_items, max_account, same_group, type_of, is_type, is_unchecked_type}
+use Rattle.format.specs.Rules.{max_amount, max_total, max_items, max_account, same_group, type_of, is_type, is_unchecked_type, TypeRead}
 use Rattle.format.specs.Tests.{Tests, type_tests, amount_tests, party_tests, payer_tests, beneficiary_tests, transaction_tests}
 use Rattle.format.specs.declared.Kind.TheVariants.{Transaction}
 use Rattle.format.specs.declared.Group.{Group}
 use Rattle.format.specs.declared.Group.TheVariants.{Payments, Debits}
-use Rattle.format.specs.declared.TypeRead.{TypeRead}
-use Rattle.format.specs.declared.TypeRead.TheVariants.{Of, NoType}
 use Rattle.field.specs.declared.numbers.Numeric.{Numeric}
 use Rattle.field.specs.Rows.{Row, row, part_at, field_answer, rows_at, check_rows, first_or}
 use Rattle.field.specs.Leaf.{numeric_of}
@@ -177,8 +176,8 @@ below_maxima b n z = by (ltb b.items max_items) refl (leb (b.total + n) max_tota
 
 is_type_lem : (g : Group) (t : TypeRead) (l : List ℕ) → field_answer (filled 4) (type_tests g t) l ≡ 0 → is_type t ≡ true
 unfolding field_answer pick
-is_type_lem g (Of y) l e = refl
-is_type_lem g NoType l e = by (well_formed (filled 4) l) e
+is_type_lem g (Some y) l e = refl
+is_type_lem g None l e = by (well_formed (filled 4) l) e
   where
     by : (q : Bool) → ◌≡◌ {A = ℕ} (pick q 5 4) 0 → false ≡ true
     by true e = absurd (omega arith)

@@ -1,4 +1,5 @@
 -- The record of an accepted line, and its text. Assumes nothing.
+use Rattle.std.specs.Prelude.{Some}
 use Prim.Native.Nat.{ℕ, ◌+◌, ◌-◌, ◌≤◌}
 use mathlib.Core.Path.{◌≡◌, refl, sym, ap, ◌∙◌}
 use mathlib.Core.List.{List, [], ◌∷◌}
@@ -11,14 +12,12 @@ use Rattle.machine.specs.Lists.{pick, pasted, put_in}
 use Rattle.machine.proofs.Base.{and_first, and_second, true≢false}
 use Rattle.format.specs.Fields.{Field, numeric, filled, optional, free, filler, width, well_formed, read_field}
 use Rattle.format.specs.Records.{layout}
-use Rattle.format.specs.Rules.{group_of}
+use Rattle.format.specs.Rules.{group_of, TypeRead}
 use Rattle.format.specs.Tests.{Test, Tests}
 use Rattle.format.specs.declared.Group.{Group}
 use Rattle.format.specs.declared.Kind.{Kind}
 use Rattle.format.specs.declared.Kind.TheVariants.{Transaction}
 use Rattle.format.specs.declared.TransactionType.{TransactionType}
-use Rattle.format.specs.declared.TypeRead.{TypeRead}
-use Rattle.format.specs.declared.TypeRead.TheVariants.{Of}
 use Rattle.format.proofs.Every.{every}
 use Rattle.field.specs.declared.numbers.Digits.{Digits}
 use Rattle.field.specs.Rows.{Row, part_at, first_answer, field_answer, rows_at, check_rows, fields_at, first_or}
@@ -43,7 +42,7 @@ pub transaction_made : {k l : TypeRead} {a p b a' p' b' : ℕ} → k ≡ l → a
     → ◌≡◌ {A = TransactionFields} (record { kind = k; amount = a; payer = p; beneficiary = b }) (record { kind = l; amount = a'; payer = p'; beneficiary = b' })
 transaction_made e f g h = rw (e, f, g, h)
 
-pub transaction_typed : {t : TypeRead} {y : TransactionType} (n p b : ℕ) → t ≡ Of y → the.Transaction (record { kind = y; amount = n; payer = p; beneficiary = b }) ≡ transaction_record t n p b
+pub transaction_typed : {t : TypeRead} {y : TransactionType} (n p b : ℕ) → t ≡ Some y → the.Transaction (record { kind = y; amount = n; payer = p; beneficiary = b }) ≡ transaction_record t n p b
 transaction_typed n p b e = rw e
 
 pub transaction_via : {r : Record} {x : TransactionFields} (line : List ℕ) → x ≡ transaction_for (values_of Transaction line) → r ≡ transaction_record x.kind x.amount x.payer x.beneficiary → r ≡ record_for Transaction (values_of Transaction line)

@@ -1,15 +1,14 @@
 -- Groups and transaction types. Assumes nothing.
+use Rattle.std.specs.Prelude.{Some, None}
 use Prim.Native.Nat.{ℕ}
 use mathlib.Core.Path.{◌≡◌, sym, ap, ◌∙◌}
 use mathlib.Core.List.{List}
 use mathlib.Core.Bool.{Bool, true, false}
 use Rattle.machine.specs.Lists.{pick, same}
-use Rattle.format.specs.Rules.{group_text, is_group, same_group, type_group, is_unchecked, is_unchecked_type}
+use Rattle.format.specs.Rules.{group_text, is_group, same_group, type_group, is_unchecked, is_unchecked_type, TypeRead}
 use Rattle.format.specs.Tests.{group_tests, type_tests}
 use Rattle.format.specs.declared.Group.{Group}
 use Rattle.format.specs.declared.TransactionType.{TransactionType}
-use Rattle.format.specs.declared.TypeRead.{TypeRead}
-use Rattle.format.specs.declared.TypeRead.TheVariants.{Of, NoType}
 use Rattle.field.specs.Rows.{first_answer}
 use Rattle.record.specs.declared.Before.{Before}
 use Rattle.record.specs.Faults.{known_group}
@@ -55,7 +54,7 @@ module _ {p : List ℕ} {a : Bool} (l : List ℕ) (d : p ≡ l) (e : a ≡ is_gr
 
 -- ## Types
 
-module _ {t : TypeRead} {y : TransactionType} {h : Group} {b : Bool} (g : Group) (e : t ≡ Of y) (k : h ≡ type_group y) (s : b ≡ same_group g h) where
+module _ {t : TypeRead} {y : TransactionType} {h : Group} {b : Bool} (g : Group) (e : t ≡ Some y) (k : h ≡ type_group y) (s : b ≡ same_group g h) where
   pub type_right : b ≡ true → 0 ≡ first_answer (type_tests g t)
   unfolding pick
   type_right v = let q : same_group g (type_group y) ≡ true = rw (← k) (sym s ∙ v) in rw (e, q)
@@ -64,17 +63,17 @@ module _ {t : TypeRead} {y : TransactionType} {h : Group} {b : Bool} (g : Group)
   unfolding pick
   type_other v = let q : same_group g (type_group y) ≡ false = rw (← k) (sym s ∙ v) in rw (e, q)
 
-pub type_none : {t : TypeRead} (g : Group) → t ≡ NoType → 5 ≡ first_answer (type_tests g t)
+pub type_none : {t : TypeRead} (g : Group) → t ≡ None → 5 ≡ first_answer (type_tests g t)
 unfolding pick
 type_none g e = rw e
 
 pub ruleset types = (type_right, type_other, type_none)
 
 -- whether a type is unchecked
-pub unchecked_by : {t : TypeRead} {y : TransactionType} {b : Bool} → t ≡ Of y → b ≡ is_unchecked y → b ≡ is_unchecked_type t
+pub unchecked_by : {t : TypeRead} {y : TransactionType} {b : Bool} → t ≡ Some y → b ≡ is_unchecked y → b ≡ is_unchecked_type t
 unchecked_by e h = h ∙ ap is_unchecked_type (sym e)
 
-pub unchecked_none : {t : TypeRead} → t ≡ NoType → false ≡ is_unchecked_type t
+pub unchecked_none : {t : TypeRead} → t ≡ None → false ≡ is_unchecked_type t
 unchecked_none e = ap is_unchecked_type (sym e)
 
 pub ruleset uncheckeds = (unchecked_by, unchecked_none)

@@ -1,11 +1,9 @@
 -- A line by the code and variant that it begins with, and the look-up of these in the record table. (No two codes are the same, so the order is of no matter: the records of a payment first, then those of debits, of a batch's frame and of a file's.)
-use Rattle.std.specs.Prelude.{ℕ, List, Bool, true, false, ◌||◌, take}
+use Rattle.std.specs.Prelude.{ℕ, List, Bool, true, false, ◌||◌, take, Some, None}
 use Rattle.machine.specs.Lists.{pick, same}
-use Rattle.format.specs.Records.{code}
+use Rattle.format.specs.Records.{code, Code}
 use Rattle.format.specs.declared.Kind.{Kind}
 use Rattle.format.specs.declared.Kind.TheVariants.{FileHeader, BatchHeaderB, BatchHeaderC, FixedDescription, OrderingParty, Transaction, NamePayer, CityPayer, PaymentReference, Description, NameBeneficiary, CityBeneficiary, BatchTrailer, FileTrailer}
-use Rattle.format.specs.declared.Code.{Code}
-use Rattle.format.specs.declared.Code.TheVariants.{Of, Unknown}
 
 abbrev pub begins : Kind → List ℕ → Bool
 begins k line = same (take 5 line) (code k)
@@ -53,30 +51,30 @@ is_batch_trailer FileTrailer = false
 
 unfoldable pub file_code : List ℕ → Code
 file_code c =
-    pick (same c (code FileHeader)) (Of FileHeader)
-    (pick (same c (code FileTrailer)) (Of FileTrailer)
-    Unknown)
+    pick (same c (code FileHeader)) (Some FileHeader)
+    (pick (same c (code FileTrailer)) (Some FileTrailer)
+    None)
 
 unfoldable pub batch_code : List ℕ → Code
 batch_code c =
-    pick (same c (code BatchHeaderB)) (Of BatchHeaderB)
-    (pick (same c (code BatchHeaderC)) (Of BatchHeaderC)
-    (pick (same c (code FixedDescription)) (Of FixedDescription)
-    (pick (same c (code OrderingParty)) (Of OrderingParty)
-    (pick (same c (code BatchTrailer)) (Of BatchTrailer)
+    pick (same c (code BatchHeaderB)) (Some BatchHeaderB)
+    (pick (same c (code BatchHeaderC)) (Some BatchHeaderC)
+    (pick (same c (code FixedDescription)) (Some FixedDescription)
+    (pick (same c (code OrderingParty)) (Some OrderingParty)
+    (pick (same c (code BatchTrailer)) (Some BatchTrailer)
     (file_code c)))))
 
 unfoldable pub debit_code : List ℕ → Code
 debit_code c =
-    pick (same c (code NamePayer)) (Of NamePayer)
-    (pick (same c (code CityPayer)) (Of CityPayer)
+    pick (same c (code NamePayer)) (Some NamePayer)
+    (pick (same c (code CityPayer)) (Some CityPayer)
     (batch_code c))
 
 unfoldable pub code_of : List ℕ → Code
 code_of c =
-    pick (same c (code Transaction)) (Of Transaction)
-    (pick (same c (code PaymentReference)) (Of PaymentReference)
-    (pick (same c (code Description)) (Of Description)
-    (pick (same c (code NameBeneficiary)) (Of NameBeneficiary)
-    (pick (same c (code CityBeneficiary)) (Of CityBeneficiary)
+    pick (same c (code Transaction)) (Some Transaction)
+    (pick (same c (code PaymentReference)) (Some PaymentReference)
+    (pick (same c (code Description)) (Some Description)
+    (pick (same c (code NameBeneficiary)) (Some NameBeneficiary)
+    (pick (same c (code CityBeneficiary)) (Some CityBeneficiary)
     (debit_code c)))))

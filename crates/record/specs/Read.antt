@@ -1,15 +1,13 @@
 -- The record that is handed out, and its text.
-use Rattle.std.specs.Prelude.{ℕ, ◌+◌, List, [], ◌∷◌, Bool, true, false}
+use Rattle.std.specs.Prelude.{ℕ, ◌+◌, List, [], ◌∷◌, Bool, true, false, Some, None}
 use Rattle.machine.specs.Lists.{same, spaces, put_in}
 use Rattle.format.specs.Fields.{Field, numeric, filled, optional, free, filler, width, Value, Values}
 use Rattle.format.specs.Records.{layout, Fields, creation_date, sender, identification, duplicate_code, group, ordering_account, sequence, batch_identification, unidentified, name_code, desired_date, party_name, test_code, type, amount, payer, beneficiary, total_amount, total_accounts, items}
-use Rattle.format.specs.Rules.{test_text, group_of, type_of}
+use Rattle.format.specs.Rules.{test_text, group_of, type_of, TypeRead}
 use Rattle.format.specs.Tests.{transaction_tests}
 use Rattle.format.specs.declared.Kind.{Kind}
 use Rattle.format.specs.declared.Kind.TheVariants.{FileHeader, BatchHeaderB, BatchHeaderC, FixedDescription, OrderingParty, Transaction, NamePayer, CityPayer, PaymentReference, Description, NameBeneficiary, CityBeneficiary, BatchTrailer, FileTrailer}
 use Rattle.format.specs.declared.Group.{Group}
-use Rattle.format.specs.declared.TypeRead.{TypeRead}
-use Rattle.format.specs.declared.TypeRead.TheVariants.{Of, NoType}
 use Rattle.field.specs.Rows.{part_at, rows_at, first_or}
 use Rattle.field.specs.Leaf.{digits_of}
 use Rattle.record.specs.Faults.{fields_of}
@@ -26,7 +24,7 @@ transaction_for x = record { kind = type_of (type x); amount = amount x; payer =
 
 -- 'With a refusal no fields are handed out: numbers are zero'
 abbrev pub no_transaction : TransactionFields
-no_transaction = record { kind = NoType; amount = 0; payer = 0; beneficiary = 0 }
+no_transaction = record { kind = None; amount = 0; payer = 0; beneficiary = 0 }
 
 abbrev pub refused_transaction : ℕ → ℕ → TransactionRead
 refused_transaction column number = record { number = number; column = column; read = no_transaction }
@@ -44,8 +42,8 @@ transaction_of g own line =
 
 -- a type that is none of the six is in no record
 abbrev pub transaction_record : TypeRead → ℕ → ℕ → ℕ → Record
-transaction_record (Of y) n p b = the.Transaction (record { kind = y; amount = n; payer = p; beneficiary = b })
-transaction_record NoType n p b = the.Nothing
+transaction_record (Some y) n p b = the.Transaction (record { kind = y; amount = n; payer = p; beneficiary = b })
+transaction_record None n p b = the.Nothing
 
 abbrev pub record_for : (k : Kind) → Fields k → Record
 record_for FileHeader x = the.FileHeader (creation_date x) (digits_of (identification x)).value (duplicate_code x)
@@ -107,7 +105,7 @@ text_for CityBeneficiary x = no_text
 text_for BatchTrailer x = no_text
 text_for FileTrailer x = no_text
 
--- ## The fields of any line, where a numeric field that is not digits counts as 0. (Of an accepted line they are its fields.)
+-- ## The fields of any line, where a numeric field that is not digits counts as 0. (Some an accepted line they are its fields.)
 
 abbrev pub value_in : (f : Field) → List ℕ → Value f
 value_in (numeric w) l = (digits_of l).value

@@ -4,7 +4,7 @@ ghost use Rattle.format.specs.Records.{code};
 ghost use Rattle.record.specs.Kinds.{begins, is_header, is_name, is_city, file_code, batch_code, debit_code, code_of};
 
 use field::bytes::{is_same, part};
-use format::{Code, Kind, codes};
+use format::{Kind, codes};
 
 // The characters of a code and variant.
 pub fn code_text(kind: Kind) -> [u8; 5]
@@ -56,79 +56,79 @@ pub fn is_city(line: &[u8]) -> bool
 
 // The records of a file's frame.
 #[tactic(auto, using(field::proofs::Picks::picks), unfolding(crate::specs::Kinds::file_code))]
-fn file_kind(s: &[u8]) -> Code
+fn file_kind(s: &[u8]) -> Option<Kind>
     ensures { result ≡ file_code s.now }
 {
     if is_same(s, &codes::FILE_HEADER) {
-        return Code::Of(Kind::FileHeader);
+        return Some(Kind::FileHeader);
     }
     if is_same(s, &codes::FILE_TRAILER) {
-        return Code::Of(Kind::FileTrailer);
+        return Some(Kind::FileTrailer);
     }
-    Code::Unknown
+    None
 }
 
 // The records of a batch's frame.
 #[tactic(auto, using(field::proofs::Picks::picks), unfolding(crate::specs::Kinds::batch_code))]
-fn batch_kind(s: &[u8]) -> Code
+fn batch_kind(s: &[u8]) -> Option<Kind>
     ensures { result ≡ batch_code s.now }
 {
     if is_same(s, &codes::BATCH_HEADER_B) {
-        return Code::Of(Kind::BatchHeaderB);
+        return Some(Kind::BatchHeaderB);
     }
     if is_same(s, &codes::BATCH_HEADER_C) {
-        return Code::Of(Kind::BatchHeaderC);
+        return Some(Kind::BatchHeaderC);
     }
     if is_same(s, &codes::FIXED_DESCRIPTION) {
-        return Code::Of(Kind::FixedDescription);
+        return Some(Kind::FixedDescription);
     }
     if is_same(s, &codes::ORDERING_PARTY) {
-        return Code::Of(Kind::OrderingParty);
+        return Some(Kind::OrderingParty);
     }
     if is_same(s, &codes::BATCH_TRAILER) {
-        return Code::Of(Kind::BatchTrailer);
+        return Some(Kind::BatchTrailer);
     }
     file_kind(s)
 }
 
 // The records that only debits have.
 #[tactic(auto, using(field::proofs::Picks::picks), unfolding(crate::specs::Kinds::debit_code))]
-fn debit_kind(s: &[u8]) -> Code
+fn debit_kind(s: &[u8]) -> Option<Kind>
     ensures { result ≡ debit_code s.now }
 {
     if is_same(s, &codes::NAME_PAYER) {
-        return Code::Of(Kind::NamePayer);
+        return Some(Kind::NamePayer);
     }
     if is_same(s, &codes::CITY_PAYER) {
-        return Code::Of(Kind::CityPayer);
+        return Some(Kind::CityPayer);
     }
     batch_kind(s)
 }
 
 // The records of a payment, the most frequent ones.
 #[tactic(auto, using(field::proofs::Picks::picks), unfolding(crate::specs::Kinds::code_of))]
-fn kind_in(s: &[u8]) -> Code
+fn kind_in(s: &[u8]) -> Option<Kind>
     ensures { result ≡ code_of s.now }
 {
     if is_same(s, &codes::TRANSACTION) {
-        return Code::Of(Kind::Transaction);
+        return Some(Kind::Transaction);
     }
     if is_same(s, &codes::PAYMENT_REFERENCE) {
-        return Code::Of(Kind::PaymentReference);
+        return Some(Kind::PaymentReference);
     }
     if is_same(s, &codes::DESCRIPTION) {
-        return Code::Of(Kind::Description);
+        return Some(Kind::Description);
     }
     if is_same(s, &codes::NAME_BENEFICIARY) {
-        return Code::Of(Kind::NameBeneficiary);
+        return Some(Kind::NameBeneficiary);
     }
     if is_same(s, &codes::CITY_BENEFICIARY) {
-        return Code::Of(Kind::CityBeneficiary);
+        return Some(Kind::CityBeneficiary);
     }
     debit_kind(s)
 }
 
-pub fn code_of(line: &[u8]) -> Code
+pub fn code_of(line: &[u8]) -> Option<Kind>
     ensures { result ≡ code_of (take 5 line.now) }
 {
     kind_in(part(line, 0, 5))

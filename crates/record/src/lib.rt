@@ -4,7 +4,7 @@
 ghost use Rattle.std.specs.Prelude.{◌≡◌};
 ghost use Rattle.record.specs.Faults.{nothing_before, after_header, empty_batch, no_totals};
 
-use format::{EndingSoFar, Group, TransactionType, TypeRead};
+use format::{Group, LineEnd, TransactionType};
 
 pub mod faults;
 pub mod kinds;
@@ -25,7 +25,7 @@ pub struct Before {
     pub sequence: u64,
     pub group: Group,
     pub known: bool,
-    pub ending: EndingSoFar,
+    pub ending: Option<LineEnd>,
 }
 
 impl Before {
@@ -36,7 +36,7 @@ impl Before {
             sequence: 0,
             group: Group::Payments,
             known: false,
-            ending: EndingSoFar::Unknown,
+            ending: None,
         }
     }
 
@@ -135,7 +135,7 @@ impl Transaction {
 // The fields of a transaction's line, whatever characters stand for its type.
 #[derive(Clone, Copy)]
 pub struct TransactionFields {
-    pub kind: TypeRead,
+    pub kind: Option<TransactionType>,
     pub amount: u64,
     pub payer: u64,
     pub beneficiary: u64,

@@ -10,7 +10,7 @@ use crate::types::{group_in, type_in};
 use crate::{Record, Transaction, TransactionFields};
 use field::bytes::{is_same, part, put};
 use field::numbers::digits_at;
-use format::{Kind, TypeRead, codes};
+use format::{Kind, TransactionType, codes};
 
 pub fn value_at(line: &[u8], at: usize, width: usize) -> u64
     ensures { result ≡ (digits_of (take width (drop at line.now))).value }
@@ -62,11 +62,16 @@ fn ordering_party_at(line: &[u8]) -> Record
 }
 
 // A type that is none of the six is in no record.
-fn transaction_record(t: TypeRead, amount: u64, payer: u64, beneficiary: u64) -> Record
+fn transaction_record(
+    t: Option<TransactionType>,
+    amount: u64,
+    payer: u64,
+    beneficiary: u64,
+) -> Record
     ensures { result ≡ transaction_record t amount payer beneficiary }
 {
     match t {
-        TypeRead::Of(kind) => {
+        Some(kind) => {
             let item = Transaction {
                 kind,
                 amount,
@@ -75,7 +80,7 @@ fn transaction_record(t: TypeRead, amount: u64, payer: u64, beneficiary: u64) ->
             };
             Record::Transaction(item)
         }
-        TypeRead::NoType => Record::Nothing,
+        None => Record::Nothing,
     }
 }
 

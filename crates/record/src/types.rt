@@ -10,7 +10,7 @@ ghost use Rattle.record.specs.Faults.{known_group};
 use crate::Before;
 use field::bytes::{is_same, part};
 use field::texts::filled_answer;
-use format::{Group, TransactionType, TypeRead, codes};
+use format::{Group, TransactionType, codes};
 
 pub fn group_in(line: &[u8]) -> Group
     ensures { result ≡ group_of (part_at 6 2 line.now) }
@@ -94,31 +94,31 @@ pub fn type_text(kind: TransactionType) -> [u8; 4]
 }
 
 #[tactic(auto, using(field::proofs::Picks::picks), unfolding(format::specs::Rules::type_of))]
-fn type_of(s: &[u8]) -> TypeRead
+fn type_of(s: &[u8]) -> Option<TransactionType>
     ensures { result ≡ type_of s.now }
 {
     if is_same(s, &codes::TYPE_UNCHECKED_CREDITOR) {
-        return TypeRead::Of(TransactionType::UncheckedCreditor);
+        return Some(TransactionType::UncheckedCreditor);
     }
     if is_same(s, &codes::TYPE_UNCHECKED_SALARY) {
-        return TypeRead::Of(TransactionType::UncheckedSalary);
+        return Some(TransactionType::UncheckedSalary);
     }
     if is_same(s, &codes::TYPE_CREDITOR) {
-        return TypeRead::Of(TransactionType::Creditor);
+        return Some(TransactionType::Creditor);
     }
     if is_same(s, &codes::TYPE_SALARY) {
-        return TypeRead::Of(TransactionType::Salary);
+        return Some(TransactionType::Salary);
     }
     if is_same(s, &codes::TYPE_DEBIT) {
-        return TypeRead::Of(TransactionType::Debit);
+        return Some(TransactionType::Debit);
     }
     if is_same(s, &codes::TYPE_UNCHECKED_DEBIT) {
-        return TypeRead::Of(TransactionType::UncheckedDebit);
+        return Some(TransactionType::UncheckedDebit);
     }
-    TypeRead::NoType
+    None
 }
 
-pub(crate) fn type_in(line: &[u8]) -> TypeRead
+pub(crate) fn type_in(line: &[u8]) -> Option<TransactionType>
     ensures { result ≡ type_of (part_at 6 4 line.now) }
 {
     type_of(part(line, 5, 4))
@@ -151,30 +151,30 @@ fn is_unchecked(t: TransactionType) -> bool
 }
 
 // An unchecked type, whose item must have a name record and a seven-digit other party.
-pub fn is_unchecked_type(t: TypeRead) -> bool
+pub fn is_unchecked_type(t: Option<TransactionType>) -> bool
     ensures { result ≡ is_unchecked_type t }
 {
     match t {
-        TypeRead::Of(y) => is_unchecked(y),
-        TypeRead::NoType => false,
+        Some(y) => is_unchecked(y),
+        None => false,
     }
 }
 
-fn type_fault(t: TypeRead, group: Group) -> u8
+fn type_fault(t: Option<TransactionType>, group: Group) -> u8
     ensures { result ≡ first_answer (type_tests group t) }
 {
     match t {
-        TypeRead::Of(y) => if is_same_group(group, type_group(y)) {
+        Some(y) => if is_same_group(group, type_group(y)) {
             0
         } else {
             format::DIFFERS
         },
-        TypeRead::NoType => format::WRONG_VALUE,
+        None => format::WRONG_VALUE,
     }
 }
 
 // A type of the group; t is what its characters stand for.
-pub(crate) fn type_answer(line: &[u8], t: TypeRead, group: Group) -> u8
+pub(crate) fn type_answer(line: &[u8], t: Option<TransactionType>, group: Group) -> u8
     ensures { result ≡ field_answer (filled 4) (type_tests group t) (part_at 6 4 line.now) }
 {
     let f = filled_answer(line, 5, 4);

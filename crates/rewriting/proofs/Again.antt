@@ -1,4 +1,5 @@
 -- A file without its cities is accepted again, and is what the writer writes. Assumes nothing.
+use Rattle.std.specs.Prelude.{Some, None}
 use Prim.Native.Nat.{ℕ, ◌*◌, ◌<◌}
 use mathlib.Core.Path.{◌≡◌, refl, sym, ap, ap₂, ◌∙◌, subst}
 use mathlib.Core.List.{List, [], ◌∷◌, ◌++◌}
@@ -15,11 +16,9 @@ use Rattle.format.specs.declared.Answer.{Answer}
 use Rattle.format.specs.Language.{File, Rec, file_recs, is_some, Valid, Ending, crlf, end_bytes, line_of, lines_of, Reads}
 use Rattle.format.specs.Cutting.{cut_of, next_line, after_next, lines_from, lines_in, no_ending}
 use Rattle.format.specs.Records.{Fields, type, amount, payer, beneficiary}
-use Rattle.format.specs.Rules.{type_of, is_type}
+use Rattle.format.specs.Rules.{type_of, is_type, TypeRead}
 use Rattle.format.specs.declared.Kind.{Kind}
 use Rattle.format.specs.declared.Kind.TheVariants.{Transaction}
-use Rattle.format.specs.declared.TypeRead.{TypeRead}
-use Rattle.format.specs.declared.TypeRead.TheVariants as types
 use Rattle.format.proofs.Every.{every}
 use Rattle.format.proofs.Cutting.{next_fifty, lines_line}
 use Rattle.format.proofs.Reader.{Phase, Context, Place, Ok, Path, end, go}
@@ -187,8 +186,8 @@ no_entry none h = refl
 no_entry (some e) h = absurd (true≢false h)
 
 item_entry : (t : TypeRead) (n p b : ℕ) → is_type t ≡ true → is_some (entry_of (transaction_record t n p b)) ≡ true
-item_entry (types.Of y) n p b h = refl
-item_entry types.NoType n p b h = absurd (true≢false (sym h))
+item_entry (Some y) n p b h = refl
+item_entry None n p b h = absurd (true≢false (sym h))
 
 has_entry : (p : Before) (b : Batch) (k : Kind) (l : List ℕ) → (fault_of p b k l).number ≡ 0 → is_some (entry_of (record_for k (fields_of k l))) ≡ not (is_city_kind k)
 unfolding is_city same

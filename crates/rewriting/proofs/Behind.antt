@@ -1,4 +1,6 @@
 -- The state that writes is behind the one that reads: fewer lines, where a city was passed the name still the last read, and an ending that is not 10 alone. What the one takes the other takes with 13, 10. Assumes nothing.
+use Rattle.std.specs.Prelude.{Some}
+use Rattle.format.specs.declared.LineEnd.TheVariants.{CrLf}
 use Prim.Native.Nat.{ℕ, ◌+◌, ◌≤◌}
 use mathlib.Core.Path.{◌≡◌, refl, sym, ap, ap₂, ◌∙◌, subst}
 use mathlib.Core.List.{List}
@@ -13,10 +15,8 @@ use Rattle.machine.proofs.Base.{and_second, true≢false}
 use Rattle.format.specs.Records.{Fields, code}
 use Rattle.format.specs.Rules.{most_descriptions, same_group, is_unchecked_type}
 use Rattle.format.specs.Language.{crlf}
-use Rattle.format.specs.Cutting.{is_open, cut_of, next_line}
+use Rattle.format.specs.Cutting.{is_open, cut_of, next_line, EndingSoFar}
 use Rattle.format.specs.declared.Cut.{Cut}
-use Rattle.format.specs.declared.EndingSoFar.{EndingSoFar}
-use Rattle.format.specs.declared.EndingSoFar.TheVariants.{CrLf}
 use Rattle.format.specs.declared.Kind.{Kind}
 use Rattle.format.specs.declared.Kind.TheVariants.{FileHeader, BatchHeaderB, BatchHeaderC, FixedDescription, OrderingParty, Transaction, NamePayer, CityPayer, PaymentReference, Description, NameBeneficiary, CityBeneficiary, BatchTrailer, FileTrailer}
 use Rattle.format.specs.declared.Group.{Group}
@@ -64,7 +64,7 @@ pub record Behind (s w : State) : Type 0 where
   pub is : w ≡ behind s line name ending
   pub small : line ≤ s.line
   pub like : NameLike s.item.name name
-  pub still : is_open ending CrLf ≡ true
+  pub still : is_open ending (Some CrLf) ≡ true
 
 pub within_behind : (s : State) (l : ℕ) (n : Name) (y : EndingSoFar) → l ≤ s.line → within s ≡ true → within (behind s l n y) ≡ true
 unfolding within is_limited
@@ -123,7 +123,7 @@ still_read : {m n : Name} → NameLike m n → m ≡ Read → n ≡ Read
 still_read (alike e) h = e ∙ h
 still_read (unread p q) h = q
 
-module _ (s : State) (l : ℕ) (n : Name) (y : EndingSoFar) (h : l ≤ s.line) (e : NameLike s.item.name n) (o : is_open y CrLf ≡ true) where
+module _ (s : State) (l : ℕ) (n : Name) (y : EndingSoFar) (h : l ≤ s.line) (e : NameLike s.item.name n) (o : is_open y (Some CrLf) ≡ true) where
   by : (u : State) (m : ℕ) (i : Name) → m ≤ u.line → NameLike u.item.name i → Behind u (behind u m i y)
   by u m i g d = record { line = m; name = i; ending = y; is = refl; small = g; like = d; still = o }
 
@@ -168,8 +168,8 @@ module _ (s : State) (l : ℕ) (n : Name) (y : EndingSoFar) (h : l ≤ s.line) (
 -- ## A line taken by both
 
 -- after a line both have an ending, the writer's 13, 10
-behind_ended : {s w : State} (y : EndingSoFar) → Behind s w → Behind (with_ending y s) (with_ending CrLf w)
-behind_ended y b = record { line = b.line; name = b.name; ending = CrLf; is = ap (with_ending CrLf) b.is; small = b.small; like = b.like; still = refl }
+behind_ended : {s w : State} (y : EndingSoFar) → Behind s w → Behind (with_ending y s) (with_ending (Some CrLf) w)
+behind_ended y b = record { line = b.line; name = b.name; ending = Some CrLf; is = ap (with_ending (Some CrLf)) b.is; small = b.small; like = b.like; still = refl }
 
 module _ {s w : State} {xs : List ℕ} (b : Behind s w) (t : Taken s xs) where
   module _ (c : is_city_kind t.kind ≡ false) where

@@ -1,11 +1,9 @@
 -- The names of fields (01, 'Record table'), and which of them stands at a column; the name of an input.
-use Rattle.std.specs.Prelude.{ℕ, ◌+◌, List, [], ◌∷◌, length, eqb}
+use Rattle.std.specs.Prelude.{ℕ, ◌+◌, List, [], ◌∷◌, length, eqb, Some, None}
 use Prim.Native.String.{String}
 use Rattle.machine.specs.Lists.{pick}
 use Rattle.format.specs.Fields.{Field, width}
-use Rattle.format.specs.Records.{layout}
-use Rattle.format.specs.declared.Code.{Code}
-use Rattle.format.specs.declared.Code.TheVariants.{Of, Unknown}
+use Rattle.format.specs.Records.{layout, Code}
 use Rattle.format.specs.declared.Kind.{Kind}
 use Rattle.format.specs.declared.Kind.TheVariants.{FileHeader, BatchHeaderB, BatchHeaderC, FixedDescription, OrderingParty, Transaction, NamePayer, CityPayer, PaymentReference, Description, NameBeneficiary, CityBeneficiary, BatchTrailer, FileTrailer}
 use Rattle.machine.specs.Texts.{characters}
@@ -41,8 +39,8 @@ name_in k column = name_from 6 (layout k) (names k) column
 
 -- of a record that is not in the table nothing but its code is known
 abbrev pub name_after : Code → ℕ → List ℕ
-name_after (Of k) column = name_in k column
-name_after Unknown column = []
+name_after (Some k) column = name_in k column
+name_after None column = []
 
 -- THE NAME of the field that a refusal's column names
 unfoldable pub field_name : Code → ℕ → List ℕ

@@ -4,7 +4,7 @@ ghost use Rattle.page.specs.Lines.{with_text};
 ghost use Rattle.telling.specs.Names.{name_in, name_after, field_name};
 
 use crate::looked_up;
-use format::{Code, Kind};
+use format::Kind;
 use page::Page;
 
 const FILE_HEADER: [(u8, &str); 6] = [
@@ -75,16 +75,16 @@ fn name_in(kind: Kind, column: u8) -> &'static str
     }
 }
 
-fn name_after(code: Code, column: u8) -> &'static str
+fn name_after(code: Option<Kind>, column: u8) -> &'static str
     ensures { result.now ≡ name_after code column }
 {
     match code {
-        Code::Of(kind) => name_in(kind, column),
-        Code::Unknown => "",
+        Some(kind) => name_in(kind, column),
+        None => "",
     }
 }
 
-fn field_name(code: Code, column: u8) -> &'static str
+fn field_name(code: Option<Kind>, column: u8) -> &'static str
     ensures { result.now ≡ field_name code column }
 {
     if column == 1 {
@@ -94,7 +94,7 @@ fn field_name(code: Code, column: u8) -> &'static str
 }
 
 // The name of the field of that record that begins at a column onto a page, and nothing where none begins.
-pub fn put_field<const N: usize>(page: &mut Page<N>, code: Code, column: u8)
+pub fn put_field<const N: usize>(page: &mut Page<N>, code: Option<Kind>, column: u8)
     ensures { page.new ≡ with_text page.old (field_name code column) }
 {
     page.text(field_name(code, column).as_bytes());

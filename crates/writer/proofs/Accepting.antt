@@ -1,4 +1,5 @@
 -- A line that is accepted: its kind, and that it is its fields as the table writes them. Assumes nothing.
+use Rattle.std.specs.Prelude.{Some}
 use Prim.Native.Nat.{ℕ, ◌+◌, ◌-◌, ◌≤◌, ◌<◌}
 use mathlib.Core.Path.{◌≡◌, refl, sym, ap, ap₂, ◌∙◌}
 use mathlib.Core.List.{List, [], ◌∷◌, ◌++◌, append_assoc}
@@ -14,7 +15,6 @@ use Rattle.format.specs.Tests.{Tests}
 use Rattle.format.specs.declared.Cut.{Cut}
 use Rattle.format.specs.declared.Kind.{Kind}
 use Rattle.format.specs.Answers.{acceptance}
-use Rattle.format.specs.declared.Code.TheVariants.{Of}
 use Rattle.format.proofs.Cutting.{whole_fifty, whole_next}
 use Rattle.format.proofs.Checks.{Holds, read_field_lem}
 use Rattle.format.proofs.Link.{line_widths}
@@ -59,7 +59,7 @@ read_as s c k x = record { answer = acceptance (s.line + 1); next = with_ending 
 pub record Accepted (s : State) (xs : List ℕ) : Type 0 where
   pub whole : is_open s.before.ending (cut_of xs).ending ≡ true
   pub kind : Kind
-  pub coded : code_of (take 5 (take 50 xs)) ≡ Of kind
+  pub coded : code_of (take 5 (take 50 xs)) ≡ Some kind
   pub fields : Faultless 6 (layout kind) (tests_for s.before s.batch kind (fields_of kind (take 50 xs))) (take 50 xs)
   pub step : step_at s xs ≡ read_as s (cut_of xs) kind (fields_of kind (take 50 xs))
 

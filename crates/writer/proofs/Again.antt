@@ -1,4 +1,5 @@
 -- READ, THEN WRITTEN: an accepted line that is no city is what is written of its record and text. Assumes nothing.
+use Rattle.std.specs.Prelude.{Some, None}
 use Prim.Native.Nat.{ℕ, ◌-◌, ◌≤◌, ◌<◌}
 use mathlib.Core.Path.{◌≡◌, refl, sym, ap, ap₂, ◌∙◌, subst}
 use mathlib.Core.List.{List, [], ◌∷◌, ◌++◌}
@@ -15,12 +16,10 @@ use Rattle.machine.proofs.Base.{none≢some, and_l, of_eq, yes, same→eq}
 use Rattle.machine.proofs.Digits.{spaces_blank}
 use Rattle.format.specs.Fields.{Field, numeric, Values, write_field, write_fields, Fits}
 use Rattle.format.specs.Records.{layout, code, Fields, creation_date, file_name, sender, identification, duplicate_code, group, ordering_account, sequence, currency, batch_identification, name_code, desired_date, party_name, test_code, type, amount, payer, beneficiary, total_amount, total_accounts, items}
-use Rattle.format.specs.Rules.{CLIEOP03, EUR, test_text, is_test_code, is_identification, group_text, is_group, group_of, type_text, type_of, is_type}
+use Rattle.format.specs.Rules.{CLIEOP03, EUR, test_text, is_test_code, is_identification, group_text, is_group, group_of, type_text, type_of, is_type, TypeRead}
 use Rattle.format.specs.declared.Kind.{Kind}
 use Rattle.format.specs.declared.Kind.TheVariants as kinds
 use Rattle.format.specs.declared.Group.TheVariants.{Payments, Debits}
-use Rattle.format.specs.declared.TypeRead.{TypeRead}
-use Rattle.format.specs.declared.TypeRead.TheVariants.{Of, NoType}
 use Rattle.format.specs.declared.TransactionType.{TransactionType}
 use Rattle.format.specs.declared.TransactionType.TheVariants.{UncheckedCreditor, UncheckedSalary, Creditor, Salary, Debit, UncheckedDebit}
 use Rattle.format.proofs.Checks.{Holds, read_field_lem}
@@ -108,21 +107,21 @@ test_again t h = by (same t (test_text false)) (same t (test_text true)) refl re
     by true false p q k = same_text 1 t (test_text false) h (of_eq _ p)
     by false false p q k = absurd k
 
-one_type : (y z : TransactionType) → Of y ≡ Of z → y ≡ z
+one_type : (y z : TransactionType) → Some y ≡ Some z → y ≡ z
 one_type y z q = cc
 
-type_again : (t : List ℕ) (y : TransactionType) → length t ≡ 4 → type_of t ≡ Of y → text_in 4 (type_text y) ≡ t
+type_again : (t : List ℕ) (y : TransactionType) → length t ≡ 4 → type_of t ≡ Some y → text_in 4 (type_text y) ≡ t
 unfolding type_of pick
 type_again t y h =
     by (same t (type_text UncheckedCreditor)) (same t (type_text UncheckedSalary)) (same t (type_text Creditor)) (same t (type_text Salary)) (same t (type_text Debit)) (same t (type_text UncheckedDebit))
     refl refl refl refl refl refl
   where
-    this : (z : TransactionType) → same t (type_text z) ≡ true → Of z ≡ Of y → text_in 4 (type_text y) ≡ t
+    this : (z : TransactionType) → same t (type_text z) ≡ true → Some z ≡ Some y → text_in 4 (type_text y) ≡ t
     this z p q = subst (λ x. text_in 4 (type_text x) ≡ t) (one_type z y q) (same_text 4 t (type_text z) h (of_eq _ p))
 
     by : (a b c d e f : Bool) → same t (type_text UncheckedCreditor) ≡ a → same t (type_text UncheckedSalary) ≡ b → same t (type_text Creditor) ≡ c → same t (type_text Salary) ≡ d
         → same t (type_text Debit) ≡ e → same t (type_text UncheckedDebit) ≡ f
-        → pick a (Of UncheckedCreditor) (pick b (Of UncheckedSalary) (pick c (Of Creditor) (pick d (Of Salary) (pick e (Of Debit) (pick f (Of UncheckedDebit) NoType))))) ≡ Of y
+        → pick a (Some UncheckedCreditor) (pick b (Some UncheckedSalary) (pick c (Some Creditor) (pick d (Some Salary) (pick e (Some Debit) (pick f (Some UncheckedDebit) None))))) ≡ Some y
         → text_in 4 (type_text y) ≡ t
     by true b c d e f p q r u v w k = this UncheckedCreditor p k
     by false true c d e f p q r u v w k = this UncheckedSalary q k
@@ -144,7 +143,7 @@ written_as s t a x h e p = ap (λ b. code (kind_of a) ++ (b ++ line_end)) (sym (
 
 item_again : (s : State) (x : Fields kinds.Transaction) → Fits (layout kinds.Transaction) x → (e : Entry) (t : TypeRead) → type_of (type x) ≡ t → entry_of (transaction_record t (amount x) (payer x) (beneficiary x)) ≡ some e
     → code kinds.Transaction ++ (write_fields (layout kinds.Transaction) x ++ line_end) ≡ line_for s e no_text
-item_again s x f e (Of y) p q =
+item_again s x f e (Some y) p q =
     written_as s no_text (Transaction (record { kind = y; amount = amount x; payer = payer x; beneficiary = beneficiary x })) x (
       type_again (type x) y f.0.0 p,
       (
@@ -158,7 +157,7 @@ item_again s x f e (Of y) p q =
         ),
       ),
     ) e q
-item_again s x f e NoType p q = absurd (none≢some q)
+item_again s x f e None p q = absurd (none≢some q)
 
 again : (s : State) (k : Kind) (x : Fields k) → Fits (layout k) x → Holds (layout k) (tests_for s.before s.batch k x) → (e : Entry) → entry_of (record_for k x) ≡ some e
     → code k ++ (write_fields (layout k) x ++ line_end) ≡ line_for s e (text_for k x)

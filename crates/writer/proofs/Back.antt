@@ -1,4 +1,6 @@
 -- WRITTEN, THEN READ: the same record, the same text, the same next state. Assumes nothing.
+use Rattle.format.specs.declared.LineEnd.TheVariants.{CrLf}
+use Rattle.std.specs.Prelude.{Some}
 use Prim.Native.Nat.{ℕ, zero, suc, ◌+◌, ◌-◌, ◌≤◌, ◌<◌}
 use mathlib.Core.Path.{◌≡◌, refl, sym, ap, ap₂, ◌∙◌, subst}
 use mathlib.Core.List.{List, [], ◌∷◌, ◌++◌, append_assoc}
@@ -19,7 +21,6 @@ use Rattle.format.specs.Rules.{test_text, group_text, group_of, type_text, type_
 use Rattle.format.specs.declared.Group.{Group}
 use Rattle.format.specs.declared.Group.TheVariants.{Payments, Debits}
 use Rattle.format.specs.declared.TransactionType.{TransactionType}
-use Rattle.format.specs.declared.TypeRead.TheVariants.{Of}
 use Rattle.format.specs.declared.TransactionType.TheVariants.{UncheckedCreditor, UncheckedSalary, Creditor, Salary, Debit, UncheckedDebit}
 use Rattle.format.proofs.Checks.{field_read}
 use Rattle.format.proofs.Link.{line_widths}
@@ -31,7 +32,6 @@ use Rattle.record.specs.Read.{transaction_record, record_for, text_for, no_text,
 use Rattle.record.specs.declared.Record.TheVariants as read
 use Rattle.format.specs.Language.{crlf}
 use Rattle.format.specs.Cutting.{cut_of}
-use Rattle.format.specs.declared.EndingSoFar.TheVariants.{CrLf}
 use Rattle.format.proofs.Cutting.{Line, line_cut}
 use Rattle.reading.specs.Step.{with_ending, next_for, step_at}
 use Rattle.reading.specs.declared.State.{State}
@@ -173,7 +173,7 @@ sized s t h FileTrailer = ((omega arith, omega arith), tt)
 
 -- ## The record
 
-type_of_lem : (y : TransactionType) → type_of (take 4 (type_text y)) ≡ Of y
+type_of_lem : (y : TransactionType) → type_of (take 4 (type_text y)) ≡ Some y
 unfolding type_of same pick
 type_of_lem UncheckedCreditor = refl
 type_of_lem UncheckedSalary = refl
@@ -284,7 +284,7 @@ module _ (s : State) (e : Entry) (t : List ℕ) (h : length t ≡ 35) where
       ∙ take_all 45 (encode_fields (layout (kind_of e)) (given_for s t e)) (omega (arith, body_long))
 
   -- the fields that are read of it are those given
-  of_accepted : (a : Accepted s (line_for s e t)) → a.kind ≡ kind_of e → step_at s (line_for s e t) ≡ record { answer = acceptance (s.line + 1); next = with_ending CrLf (next_for s (kind_of e) (fields_of (kind_of e) (take 50 (line_for s e t)))); bytes = 52; read = record_of s e; text = t }
+  of_accepted : (a : Accepted s (line_for s e t)) → a.kind ≡ kind_of e → step_at s (line_for s e t) ≡ record { answer = acceptance (s.line + 1); next = with_ending (Some CrLf) (next_for s (kind_of e) (fields_of (kind_of e) (take 50 (line_for s e t)))); bytes = 52; read = record_of s e; text = t }
   of_accepted a q =
       let x = fields_of (kind_of e) (take 50 (line_for s e t)) in
       let f : Fits (layout (kind_of e)) x = subst (λ m. Fits (layout m) (fields_of m (take 50 (line_for s e t)))) q a.fields.fits in
@@ -293,7 +293,7 @@ module _ (s : State) (e : Entry) (t : List ℕ) (h : length t ≡ 35) where
       let r = ap (record_for (kind_of e)) b.0 ∙ record_back s t e b.1 in
       let y = ap (text_for (kind_of e)) b.0 ∙ text_back_is s t e h b.1 in
       a.step ∙ ap (λ m. read_as s (cut_of (line_for s e t)) m (fields_of m (take 50 (line_for s e t)))) q ∙ ap (λ c. read_as s c (kind_of e) x) (line_cut crlf (line_for s e t) is_line)
-      ∙ ap₂ (λ i j. record { answer = acceptance (s.line + 1); next = with_ending CrLf (next_for s (kind_of e) x); bytes = 52; read = i; text = j }) r y
+      ∙ ap₂ (λ i j. record { answer = acceptance (s.line + 1); next = with_ending (Some CrLf) (next_for s (kind_of e) x); bytes = 52; read = i; text = j }) r y
 
   pub read_back : (step_at s (line_for s e t)).answer.number ≡ 0 → step_at s (line_for s e t) ≡ record { answer = acceptance (s.line + 1); next = (step_at s (line_for s e t)).next; bytes = 52; read = record_of s e; text = t }
   read_back z =

@@ -1,4 +1,6 @@
 -- The writer's promises, from its answer and the room after it. Assumes nothing.
+use Rattle.std.specs.Prelude.{Some}
+use Rattle.format.specs.declared.LineEnd.TheVariants.{CrLf}
 use Prim.Native.Nat.{ℕ, ◌+◌, ◌<◌}
 use mathlib.Core.Path.{◌≡◌, refl, sym, ap, ap₂, ◌∙◌, subst}
 use mathlib.Core.List.{List, [], ◌∷◌, ◌++◌}
@@ -13,9 +15,7 @@ use Rattle.machine.specs.Lists.{pick}
 use Rattle.machine.proofs.Base.{none≢some}
 use Rattle.format.specs.Answers.{refusal, acceptance}
 use Rattle.format.specs.Language.{crlf}
-use Rattle.format.specs.Cutting.{is_open, cut_of, next_line}
-use Rattle.format.specs.declared.EndingSoFar.{EndingSoFar}
-use Rattle.format.specs.declared.EndingSoFar.TheVariants.{CrLf}
+use Rattle.format.specs.Cutting.{is_open, cut_of, next_line, EndingSoFar}
 use Rattle.format.proofs.Cutting.{line_cut, whole_is}
 use Rattle.record.specs.Faults.{fields_of}
 use Rattle.reading.specs.Step.{with_ending, step_at}
@@ -99,7 +99,7 @@ module _ (s : State) (e : Entry) (t : List ℕ) (h : length t ≡ 35) where
             ∙ ap₂ (λ a u. record { answer = a; next = u; bytes = 52; read = record_of s e; text = t }) (sym (ap (λ (v : Written). v.answer) w ∙ ap (λ (v : LineRead). v.answer) f)) (sym (ap (λ (v : Written). v.next) w));
       }
 
-  module _ (o : is_open s.before.ending CrLf ≡ true) (y : EndingSoFar) (xs : List ℕ) (z : (step_at (with_ending y s) xs).answer.number ≡ 0) (q : entry_of (step_at (with_ending y s) xs).read ≡ some e) (p : (step_at (with_ending y s) xs).text ≡ t) where
+  module _ (o : is_open s.before.ending (Some CrLf) ≡ true) (y : EndingSoFar) (xs : List ℕ) (z : (step_at (with_ending y s) xs).answer.number ≡ 0) (q : entry_of (step_at (with_ending y s) xs).read ≡ some e) (p : (step_at (with_ending y s) xs).text ≡ t) where
     not_empty : 0 < length xs
     not_empty = some_bytes (with_ending y s) xs e q
 
@@ -110,7 +110,7 @@ module _ (s : State) (e : Entry) (t : List ℕ) (h : length t ≡ 35) where
     line_is = written_again (with_ending y s) xs not_empty z e q ∙ ap (line_for (with_ending y s) e) p ∙ line_ended y s e t
 
     -- the reader takes what is written, and goes on as after the line that was read
-    step_again : answered (step_at s (line_for s e t)).answer (step_at s (line_for s e t)).next ≡ answered (step_at (with_ending y s) xs).answer (with_ending CrLf (step_at (with_ending y s) xs).next)
+    step_again : answered (step_at s (line_for s e t)).answer (step_at s (line_for s e t)).next ≡ answered (step_at (with_ending y s) xs).answer (with_ending (Some CrLf) (step_at (with_ending y s) xs).next)
     step_again =
         let k = line_taken.kind in
         let l = ended_with crlf xs in
@@ -120,10 +120,10 @@ module _ (s : State) (e : Entry) (t : List ℕ) (h : length t ≡ 35) where
         ap (step_at s) (sym line_is) ∙ read_taken s l k h (taken_ended y s line_taken crlf o)
         ∙ ap₂ (λ c m. read_as s c k (fields_of k m)) (line_cut crlf l (is_ended line_taken crlf)) (fifty_first line_taken crlf) in
         ap (λ (v : LineRead). answered v.answer v.next) w
-        ∙ ap (λ v. answered (acceptance (s.line + 1)) (with_ending CrLf v)) (sym (next_ended y s k (fields_of k (take 50 xs))))
-        ∙ sym (ap (λ (v : LineRead). answered v.answer (with_ending CrLf v.next)) r)
+        ∙ ap (λ v. answered (acceptance (s.line + 1)) (with_ending (Some CrLf) v)) (sym (next_ended y s k (fields_of k (take 50 xs))))
+        ∙ sym (ap (λ (v : LineRead). answered v.answer (with_ending (Some CrLf) v.next)) r)
 
-    same_line : (cut_of xs).ending ≡ CrLf → next_line xs ≡ ended_with crlf xs
+    same_line : (cut_of xs).ending ≡ (Some CrLf) → next_line xs ≡ ended_with crlf xs
     same_line c = whole_is y xs line_taken.whole crlf c
 
   pub writes_again : (out : List ℕ) → WritesAgain s e t (length out) (written_of s e t (length out)) (room_of s e t out)

@@ -1,9 +1,9 @@
 -- Cases of the writer: what cannot be carried is refused at its column, the order of the answers, and 01's case 6 of what is written.
-use Rattle.std.specs.Prelude.{ℕ, ◌+◌, ◌-◌, ◌≡◌, List, [], ◌∷◌, ◌++◌, true, false, take, drop, replicate}
+use Rattle.format.specs.declared.LineEnd.TheVariants.{CrLf, Lf}
+use Rattle.std.specs.Prelude.{ℕ, ◌+◌, ◌-◌, ◌≡◌, List, [], ◌∷◌, ◌++◌, true, false, take, drop, replicate, Some}
 use Rattle.machine.specs.Lists.{spaces}
 use Rattle.format.specs.Answers.{refusal, acceptance}
 use Rattle.format.specs.declared.Answer.{Answer}
-use Rattle.format.specs.declared.EndingSoFar.TheVariants.{CrLf, Lf}
 use Rattle.format.specs.declared.Group.TheVariants.{Payments}
 use Rattle.format.specs.declared.TransactionType.TheVariants.{UncheckedCreditor, Salary}
 use Rattle.record.specs.Faults.{nothing_before, after_header, no_totals}
@@ -76,7 +76,7 @@ pub record SumWritten (payer beneficiary sum : ℕ) (digits : List ℕ) : Type 0
 pub record Cases : Type 0 where
   pub header : Answers start_state (FileHeader 150309 1501 1) (letters 5) 52 (acceptance 1)
   -- it fixes 13, 10
-  pub header_fixes : (written_of start_state (FileHeader 150309 1501 1) (letters 5) 52).next.before.ending ≡ CrLf
+  pub header_fixes : (written_of start_state (FileHeader 150309 1501 1) (letters 5) 52).next.before.ending ≡ (Some CrLf)
   pub no_room : Answers start_state (FileHeader 150309 1501 1) (letters 5) 51 (refusal 12 1 0)
   -- 12 only where nothing else applies
   pub refused_first : Answers start_state (FileHeader 150309 1501 1) (letters 6) 51 (refusal 4 1 20)
@@ -109,10 +109,10 @@ pub record Cases : Type 0 where
   pub unchecked_to_nine : Answers (batch_at 3 stage.Ordered Unwanted) (unchecked_to 123456789) (letters 0) 51 (refusal 14 4 32)
   pub after_trailer : Answers (batch_at 6 stage.Done Unwanted) FileTrailer (letters 35) 0 (refusal 11 7 0)
   -- where the lines so far end with 10 alone: what the reader would give, 1 after 24 and 11, before all else
-  pub other_end : Answers (with_ending Lf (batch_at 5 stage.Closed Unwanted)) FileTrailer (letters 35) 0 (refusal 1 6 0)
-  pub other_end_misplaced : Answers (with_ending Lf (batch_at 4 stage.Item Due)) BatchTrailer (letters 0) 52 (refusal 1 5 0)
-  pub other_end_after_trailer : Answers (with_ending Lf (batch_at 6 stage.Done Unwanted)) FileTrailer (letters 0) 52 (refusal 11 7 0)
-  pub same_end : Answers (with_ending CrLf (batch_at 5 stage.Closed Unwanted)) FileTrailer (letters 0) 52 (acceptance 6)
+  pub other_end : Answers (with_ending (Some Lf) (batch_at 5 stage.Closed Unwanted)) FileTrailer (letters 35) 0 (refusal 1 6 0)
+  pub other_end_misplaced : Answers (with_ending (Some Lf) (batch_at 4 stage.Item Due)) BatchTrailer (letters 0) 52 (refusal 1 5 0)
+  pub other_end_after_trailer : Answers (with_ending (Some Lf) (batch_at 6 stage.Done Unwanted)) FileTrailer (letters 0) 52 (refusal 11 7 0)
+  pub same_end : Answers (with_ending (Some CrLf) (batch_at 5 stage.Closed Unwanted)) FileTrailer (letters 0) 52 (acceptance 6)
   pub beyond_limits : Answers (batch_at 7000000000 stage.Closed Unwanted) FileTrailer (letters 0) 52 (refusal 24 0 0)
   -- 02's [5], 'The writer's state gets the same two numbers': a trailer that is written adds to them; 24 above either limit, and not at both
   pub trailer_totals : (written_of (batch_after (record { items = 2; amount = 152550 }) 4 stage.Item Unwanted) BatchTrailer (letters 0) 52).next.totals ≡ record { items = 3; amount = 167550 }

@@ -1,13 +1,12 @@
 -- WHAT THE WRITER PROMISES: what is written is what the reader reads, what was read is written again as the same line but for its end, and what a field cannot carry is refused there.
-use Rattle.std.specs.Prelude.{ℕ, ◌+◌, ◌≤◌, ◌≡◌, ◌≢◌, List, [], ◌∷◌, ◌++◌, Bool, true, not, ◌&&◌, take, drop, leb}
+use Rattle.format.specs.declared.LineEnd.TheVariants.{CrLf}
+use Rattle.std.specs.Prelude.{ℕ, ◌+◌, ◌≤◌, ◌≡◌, ◌≢◌, List, [], ◌∷◌, ◌++◌, Bool, true, not, ◌&&◌, take, drop, leb, Some}
 use Rattle.std.proofs.Math.Option.{Option, none, some}
 use Rattle.machine.specs.Lists.{pick, all, is_space}
 use Rattle.machine.specs.Digits.{pow10}
 use Rattle.format.specs.Fields.{Field, numeric, filled, optional, free, filler, width, printable}
 use Rattle.format.specs.Records.{layout}
-use Rattle.format.specs.Cutting.{is_open, cut_of, next_line}
-use Rattle.format.specs.declared.EndingSoFar.{EndingSoFar}
-use Rattle.format.specs.declared.EndingSoFar.TheVariants.{CrLf}
+use Rattle.format.specs.Cutting.{is_open, cut_of, next_line, EndingSoFar}
 use Rattle.format.specs.Answers.{accepted, wrong_form, acceptance}
 use Rattle.record.specs.declared.Record.{Record}
 use Rattle.record.specs.declared.Record.TheVariants as read
@@ -59,10 +58,10 @@ pub record ReadAsWritten (s : State) (e : Entry) (t : List ℕ) (w : Written) (o
 
 -- the same answer and next state, but for the ending that the writer fixes, and the same characters with the writer's end
 pub record WrittenAsRead (r : LineRead) (xs : List ℕ) (w : Written) (out : List ℕ) : Type 0 where
-  pub same_answer : w ≡ answered r.answer (with_ending CrLf r.next)
+  pub same_answer : w ≡ answered r.answer (with_ending (Some CrLf) r.next)
   pub same_characters : take 52 out ≡ take 50 xs ++ line_end
   -- of a line that ends with 13 and 10: the same bytes
-  pub same_bytes : (cut_of xs).ending ≡ CrLf → take 52 out ≡ next_line xs
+  pub same_bytes : (cut_of xs).ending ≡ (Some CrLf) → take 52 out ≡ next_line xs
 
 -- WHAT IS WRITTEN IS READ: an answer w, and the room after it
 unfoldable pub ReadsBack : State → Entry → List ℕ → Written → List ℕ → Type 0
@@ -71,7 +70,7 @@ ReadsBack s e t w out = w.answer.number ≡ accepted → ReadAsWritten s e t w o
 -- WHAT WAS READ IS WRITTEN: where there is room and 10 alone is not fixed, a record and text that the reader handed out of a line from the same state, whatever its ending is
 unfoldable pub WritesAgain : State → Entry → List ℕ → ℕ → Written → List ℕ → Type 0
 WritesAgain s e t room w out =
-    52 ≤ room → is_open s.before.ending CrLf ≡ true → (y : EndingSoFar) (xs : List ℕ) →
+    52 ≤ room → is_open s.before.ending (Some CrLf) ≡ true → (y : EndingSoFar) (xs : List ℕ) →
     let r = step_at (with_ending y s) xs in
     r.answer.number ≡ accepted → entry_of r.read ≡ some e → r.text ≡ t → WrittenAsRead r xs w out
 

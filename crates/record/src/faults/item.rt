@@ -14,7 +14,7 @@ use crate::{Batch, Fault, Transaction, TransactionFields, TransactionRead};
 use field::accounts::party;
 use field::numbers::{Numeric, digits_at, in_range};
 use field::texts::filler_answer;
-use format::{Group, TypeRead};
+use format::{Group, TransactionType};
 
 fn is_payments(g: Group) -> bool
     ensures { result ≡ same_group Payments g }
@@ -40,19 +40,24 @@ fn amount_in(line: &[u8]) -> Numeric
     in_range(digits_at(line, 9, 12), 1, Transaction::MAX_AMOUNT)
 }
 
-fn payer_in(line: &[u8], t: TypeRead, group: Group, own: u64) -> Numeric
+fn payer_in(line: &[u8], t: Option<TransactionType>, group: Group, own: u64) -> Numeric
     ensures { result ≡ numeric_of (payer_tests group own t) (part_at 22 10 line.now) }
 {
     party(line, 21, is_payments(group), own, is_unchecked_type(t))
 }
 
-fn beneficiary_in(line: &[u8], t: TypeRead, group: Group, own: u64) -> Numeric
+fn beneficiary_in(line: &[u8], t: Option<TransactionType>, group: Group, own: u64) -> Numeric
     ensures { result ≡ numeric_of (beneficiary_tests group own t) (part_at 32 10 line.now) }
 {
     party(line, 31, is_debits(group), own, is_unchecked_type(t))
 }
 
-fn transaction_of(kind: TypeRead, amount: u64, payer: u64, beneficiary: u64) -> TransactionRead
+fn transaction_of(
+    kind: Option<TransactionType>,
+    amount: u64,
+    payer: u64,
+    beneficiary: u64,
+) -> TransactionRead
     ensures { result ≡ taken_transaction kind amount payer beneficiary }
 {
     let read = TransactionFields {
@@ -72,7 +77,7 @@ fn no_transaction(number: u8, column: u8) -> TransactionRead
     ensures { result ≡ refused_transaction column number }
 {
     let read = TransactionFields {
-        kind: TypeRead::NoType,
+        kind: None,
         amount: 0,
         payer: 0,
         beneficiary: 0,
