@@ -10,17 +10,17 @@ use record::types::group_text;
 use record::{ClosedBatch, Record, Totals};
 use std::process::ExitCode;
 use std::rt::Env;
-use streams::{Lines, Printed, Reader};
+use streams::{Input, Lines, Printed, Program, TakesLines};
 
-// The listing so far: the answer to the last line, the state after it, how much is gathered, whether it was the last
-// line, whether all was read and written, and what became of what was written.
-#[derive(Clone, Copy)]
-struct Listed {
+// The listing of a file so far: the answer to the last line, the state after it, the page that it is gathered on and
+// how much of that is filled, whether a read failed, and what became of what was written.
+#[derive(Drop)]
+struct Listed<'a> {
     answer: Answer,
     state: State,
+    page: &'a mut [u8],
     at: usize,
-    ended: bool,
-    done: bool,
+    failed: bool,
     printed: Printed,
 }
 
@@ -78,117 +78,84 @@ fn is_full(size: usize, at: usize) -> bool {
     size - at < 512
 }
 
-// Writes what is gathered where the page is full.
-fn make_room(rt: &HostRuntime, before: Listed, page: &[u8]) -> Listed {
-    let mut listed = before;
-    if is_full(page.len(), listed.at) {
-        listed.printed = streams::outcome(rt, rt.write_all(part(page, 0, listed.at)));
-        listed.done = listed.done & listed.printed.is_whole();
-        listed.at = 0;
-    }
-    listed
-}
-
-// One line of what the buffer holds, or the end where there is none; whether all was read until there.
-fn list_line(
-    rt: &HostRuntime,
-    before: Listed,
-    rest: &[u8],
-    failed: bool,
-    page: &mut [u8],
-) -> Listed {
-    let mut listed = make_room(rt, before, page);
-    let state = listed.state;
-    let r = state.line(rest);
-    let read = r.read;
-    let text = r.text;
-    let answer = r.answer;
-    let next = r.next;
-    listed.at = put_record(page, listed.at, state, read, text);
-    listed.answer = answer;
-    listed.state = next;
-    listed.done = listed.done & !failed;
-    listed.ended = (answer.number != 0) | (rest.len() == 0) | !listed.done;
-    listed
-}
-
-// The lines of an input, up to the first that is refused.
-fn list_lines(
-    rt: &HostRuntime,
-    before: Listed,
-    reader: &Reader,
-    name: &[u8],
-    page: &mut [u8],
-) -> Listed {
-    let mut buffer = [0u8; streams::BUFFER];
-    let mut lines = Lines::start();
-    let mut listed = before;
-    for _ in 0..u64::MAX {
-        lines = lines.next(rt, reader, name, &mut buffer);
-        listed = list_line(rt, listed, lines.line(&buffer), lines.failed, page);
-        if listed.ended {
-            return listed;
-        }
-    }
-    listed
-}
-
-fn unlisted(at: usize) -> Listed {
-    let answer = Answer::accepted(0);
-    let state = State::start();
-    Listed {
-        answer,
-        state,
-        at,
-        ended: false,
-        done: true,
-        printed: Printed::Whole,
-    }
-}
-
 fn put_totals(page: &mut [u8], at: usize, totals: Totals) -> usize {
     let a = put_number(page, at, b"file-items=", totals.items, 1);
     put_number(page, a, b"file-amount=", totals.amount, 1)
 }
 
-// The totals and the answer, after what is gathered; what became of them.
-fn put_rest(rt: &HostRuntime, listed: Listed, page: &mut [u8]) -> Printed {
-    let state = listed.state;
-    let answer = listed.answer;
-    let a = put_totals(page, listed.at, state.totals);
-    let end = put_answer(page, a, answer);
-    streams::outcome(rt, rt.write_all(part(page, 0, end)))
+impl Listed<'_> {
+    // Before the first line, with so much on the page.
+    fn start(page: &mut [u8], at: usize) -> Listed<'_> {
+        Listed {
+            answer: Answer::accepted(0),
+            state: State::start(),
+            page,
+            at,
+            failed: false,
+            printed: Printed::Whole,
+        }
+    }
+
+    // Whether all was read and written.
+    fn is_done(&self) -> bool {
+        !self.failed & self.printed.is_whole()
+    }
+
+    // Writes what is gathered where the page is full.
+    fn make_room(&mut self, rt: &HostRuntime) {
+        if is_full(self.page.len(), self.at) {
+            let at = self.at;
+            self.printed = streams::outcome(rt, rt.write_all(part(self.page, 0, at)));
+            self.at = 0;
+        }
+    }
+
+    // The totals and the answer, after what is gathered; what became of them.
+    fn put_rest(&mut self, rt: &HostRuntime) -> Printed {
+        let a = put_totals(self.page, self.at, self.state.totals);
+        let end = put_answer(self.page, a, self.answer);
+        streams::outcome(rt, rt.write_all(part(self.page, 0, end)))
+    }
 }
 
-fn list_file(rt: &HostRuntime, reader: &Reader, name: &[u8], several: bool, page: &mut [u8]) -> u8 {
-    let at = put_input(page, name, several);
-    let read = list_lines(rt, unlisted(at), reader, name, page);
-    let listed = make_room(rt, read, page);
-    if listed.done {
-        return streams::status_after(listed.answer.number, true, put_rest(rt, listed, page));
+impl TakesLines for Listed<'_> {
+    fn take(&mut self, rt: &HostRuntime, line: &[u8], failed: bool) -> bool {
+        self.make_room(rt);
+        let r = self.state.line(line);
+        self.at = put_record(self.page, self.at, self.state, r.read, r.text);
+        self.answer = r.answer;
+        self.state = r.next;
+        self.failed = failed;
+        (self.answer.number == 0) & !line.is_empty() & self.is_done()
     }
-    streams::status_after(listed.answer.number, false, listed.printed)
 }
 
-// The file of argument i, or standard input.
-fn list_input(rt: &HostRuntime, i: usize, several: bool, page: &mut [u8]) -> u8 {
-    let mut name = [0u8; 4096];
-    let input = streams::open(rt, i, &mut name);
-    if input.reader.is_open() {
-        return list_file(rt, &input.reader, &name[..input.characters], several, page);
+// Lists files, on one page after the other.
+#[derive(Drop)]
+struct Listing {
+    page: [u8; 8192],
+    several: bool,
+}
+
+impl Program for Listing {
+    fn input(&mut self, rt: &HostRuntime, input: Input) -> u8 {
+        let mut buffer = [0u8; streams::BUFFER];
+        let at = put_input(&mut self.page, input.name, self.several);
+        let mut listed = Listed::start(&mut self.page, at);
+        Lines::start().each(rt, &input, &mut buffer, &mut listed);
+        listed.make_room(rt);
+        let number = listed.answer.number;
+        if listed.is_done() {
+            return streams::status_after(number, true, listed.put_rest(rt));
+        }
+        streams::status_after(number, false, listed.printed)
     }
-    streams::status_of(0, false)
 }
 
 fn main(rt: HostRuntime) -> ExitCode {
-    let mut page = [0u8; 8192];
-    let several = streams::is_given(rt.arg(2, &mut []));
-    let mut status = list_input(&rt, 1, several, &mut page);
-    for i in 2..usize::MAX {
-        if (status == streams::UNREAD) | !streams::is_given(rt.arg(i, &mut [])) {
-            break;
-        }
-        status = streams::worse(status, list_input(&rt, i, several, &mut page));
-    }
-    streams::end(status)
+    let mut listing = Listing {
+        page: [0u8; 8192],
+        several: streams::is_given(rt.arg(2, &mut [])),
+    };
+    streams::end(streams::each_input(&rt, 1, &mut listing))
 }

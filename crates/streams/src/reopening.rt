@@ -36,11 +36,14 @@ fn opened_anew(rt: &HostRuntime) -> io::Result<File> {
 
 // Standard input that is a file once more, at the offset where it stands, for its second reading; nothing of any other
 // input. What is read from it does not move the offset that standard input shares with whoever started the program.
-pub fn anew(rt: &HostRuntime, input: &Input) -> Option<Reader>
+pub fn anew<'a>(rt: &HostRuntime, input: &Input<'a>) -> Option<Input<'a>>
     ensures { IsSome result → is_standard input.now ≡ true }
 {
     match input.reader {
-        Some(Reader::StandardInput(_)) => opened_anew(rt).ok().map(Reader::OpenFile),
+        Some(Reader::StandardInput(_)) => opened_anew(rt).ok().map(|file| Input {
+            reader: Some(Reader::OpenFile(file)),
+            name: input.name,
+        }),
         Some(Reader::OpenFile(_)) => None,
         None => None,
     }
