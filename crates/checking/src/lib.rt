@@ -22,9 +22,8 @@ pub struct Checked {
 pub fn check(rt: &HostRuntime, input: &Input, buffer: &mut [u8]) -> Checked
     ensures { Answered result buffer.new }
 {
-    let mut lines = Lines::start();
     let mut run = Run::start();
-    lines.each(rt, input, buffer, &mut run);
+    let lines = Lines::start().each(rt, input, buffer, &mut run);
     Checked {
         answer: run.answer,
         state: run.state,

@@ -243,7 +243,7 @@ fn say(rt: &HostRuntime, checked: Checked, line: LineShown, m: Extent, name: &[u
 
 // The line that was refused and stands next, measured up to its end, however far that is.
 fn measured(rt: &HostRuntime, checked: &Checked, input: &Input, buffer: &mut [u8]) -> Extent {
-    let mut lines = checked.lines;
+    let lines = checked.lines;
     let mut m = Extent::start();
     if m.take(rt, lines.line(buffer), lines.failed) {
         lines.each(rt, input, buffer, &mut m);

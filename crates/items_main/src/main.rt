@@ -97,9 +97,8 @@ struct Seeking {
 impl Program for Seeking {
     fn input(&mut self, rt: &HostRuntime, input: Input) -> u8 {
         let mut buffer = [0u8; streams::BUFFER];
-        let mut lines = Lines::start();
         let mut sought = Sought::start(self.wanted);
-        lines.each(rt, &input, &mut buffer, &mut sought);
+        let lines = Lines::start().each(rt, &input, &mut buffer, &mut sought);
         if lines.failed {
             return streams::status_of(sought.answer.number, false);
         }

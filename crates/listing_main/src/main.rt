@@ -13,14 +13,13 @@ use std::rt::Env;
 use streams::{Input, Lines, Printed, Program, TakesLines};
 
 // The listing of a file so far: the answer to the last line, the state after it, the page that it is gathered on and
-// how much of that is filled, whether a read failed, and what became of what was written.
+// how much of that is filled, and what became of what was written.
 #[derive(Drop)]
 struct Listed<'a> {
     answer: Answer,
     state: State,
     page: &'a mut [u8],
     at: usize,
-    failed: bool,
     printed: Printed,
 }
 
@@ -91,14 +90,8 @@ impl Listed<'_> {
             state: State::start(),
             page,
             at,
-            failed: false,
             printed: Printed::Whole,
         }
-    }
-
-    // Whether all was read and written.
-    fn is_done(&self) -> bool {
-        !self.failed & self.printed.is_whole()
     }
 
     // Writes what is gathered where the page is full.
@@ -125,8 +118,7 @@ impl TakesLines for Listed<'_> {
         self.at = put_record(self.page, self.at, self.state, r.read, r.text);
         self.answer = r.answer;
         self.state = r.next;
-        self.failed = failed;
-        (self.answer.number == 0) & !line.is_empty() & self.is_done()
+        (self.answer.number == 0) & !line.is_empty() & !failed & self.printed.is_whole()
     }
 }
 
@@ -142,10 +134,10 @@ impl Program for Listing {
         let mut buffer = [0u8; streams::BUFFER];
         let at = put_input(&mut self.page, input.name, self.several);
         let mut listed = Listed::start(&mut self.page, at);
-        Lines::start().each(rt, &input, &mut buffer, &mut listed);
+        let lines = Lines::start().each(rt, &input, &mut buffer, &mut listed);
         listed.make_room(rt);
         let number = listed.answer.number;
-        if listed.is_done() {
+        if !lines.failed & listed.printed.is_whole() {
             return streams::status_after(number, true, listed.put_rest(rt));
         }
         streams::status_after(number, false, listed.printed)

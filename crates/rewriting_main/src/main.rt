@@ -161,9 +161,9 @@ impl Rewriting {
     // a one would look like one file.
     fn copy_again(&mut self, rt: &HostRuntime, source: &Source) -> u8 {
         let mut buffer = [0u8; streams::BUFFER];
-        let mut lines = streams::again(rt, source);
         let mut copied = Copied::start(&mut self.page);
-        lines.each(rt, &source.input, &mut buffer, &mut copied);
+        let start = streams::again(rt, source);
+        let lines = start.each(rt, &source.input, &mut buffer, &mut copied);
         if !copied.printed.is_whole() {
             return streams::worse(NO_MORE, streams::status_after(0, true, copied.printed));
         }

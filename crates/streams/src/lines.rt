@@ -109,36 +109,23 @@ impl Lines {
         lines.pulled(rt, input, buffer)
     }
 
-    // The line after it, taken.
-    fn turn<T: TakesLines>(
-        &mut self,
-        rt: &HostRuntime,
-        input: &Input,
-        buffer: &mut [u8],
-        turns: &mut T,
-    ) -> bool
-        ensures { T.takes turns.old (next_line (left_in self.new buffer.new)) turns.new }
-    {
-        *self = self.next(rt, input, buffer);
-        turns.take(rt, self.line(buffer), self.failed)
-    }
-
-    // One line after the other, as long as another one is taken: the last of them stands next then.
+    // One line after the other, taken, as long as another one is: the last of them stands next then.
     pub fn each<T: TakesLines>(
-        &mut self,
+        self,
         rt: &HostRuntime,
         input: &Input,
         buffer: &mut [u8],
         turns: &mut T,
-    )
-        ensures { Took T.takes turns.old (next_line (left_in self.new buffer.new)) turns.new }
+    ) -> Lines
+        ensures { Took T.takes turns.old (next_line (left_in result buffer.new)) turns.new }
     {
-        let mut more = self.turn(rt, input, buffer, turns);
-        for _ in 0..u64::MAX {
-            if !more {
-                return;
+        let mut lines = self;
+        for _turn in 0..u64::MAX {
+            lines = lines.next(rt, input, buffer);
+            if !turns.take(rt, lines.line(buffer), lines.failed) {
+                return lines;
             }
-            more = self.turn(rt, input, buffer, turns);
         }
+        lines
     }
 }
