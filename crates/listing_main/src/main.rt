@@ -114,8 +114,9 @@ impl Listed<'_> {
 impl TakesLines for Listed<'_> {
     fn take(&mut self, rt: &HostRuntime, line: &[u8], failed: bool) -> bool {
         self.make_room(rt);
-        let r = self.state.line(line);
-        self.at = put_record(self.page, self.at, self.state, r.read, r.text);
+        let state = self.state;
+        let r = state.line(line);
+        self.at = put_record(self.page, self.at, state, r.read, r.text);
         self.answer = r.answer;
         self.state = r.next;
         (self.answer.number == 0) & !line.is_empty() & !failed & self.printed.is_whole()
