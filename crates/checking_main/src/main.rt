@@ -11,7 +11,7 @@ use record::Totals;
 use record::kinds::code_of;
 use std::process::ExitCode;
 use std::rt::Env;
-use streams::{Lines, Printed, Reader};
+use streams::{Input, Printed, Program, TakesLines};
 use telling::{put_field, put_name, put_words};
 
 // How many bytes are printed of a file at most.
@@ -43,77 +43,57 @@ impl LineShown {
     }
 }
 
-fn unmeasured() -> Extent {
-    Extent {
-        length: 0,
-        last: 0,
-        ended: false,
-        failed: false,
-    }
-}
-
-fn with_byte(before: Extent, b: u8) -> Extent {
-    let mut m = before;
-    if m.ended {
-        return m;
-    }
-    if b == 10 {
-        m.ended = true;
-        return m;
-    }
-    if m.length < u64::MAX {
-        m.length += 1;
-    }
-    m.last = b;
-    m
-}
-
-fn measured(before: Extent, bytes: &[u8]) -> Extent {
-    let mut m = before;
-    for b in bytes {
-        m = with_byte(m, *b);
-    }
-    m
-}
-
-// The bytes before a line's end, which is 13 and 10, or 10 alone.
-fn length_of(m: Extent) -> u64 {
-    if m.ended {
-        if m.last == 13 {
-            if 0 < m.length {
-                return m.length - 1;
-            }
+impl Extent {
+    fn start() -> Extent {
+        Extent {
+            length: 0,
+            last: 0,
+            ended: false,
+            failed: false,
         }
     }
-    m.length
-}
 
-// The line that stands next, measured up to its end, however far that is.
-fn measured_on(
-    rt: &HostRuntime,
-    start: Lines,
-    reader: &Reader,
-    name: &[u8],
-    buffer: &mut [u8],
-) -> Extent {
-    let mut lines = start;
-    let mut m = unmeasured();
-    for _ in 0..u64::MAX {
-        m = measured(m, lines.line(buffer));
-        if m.ended | (lines.end <= lines.at) {
-            m.failed = lines.failed;
+    fn after_byte(self, b: u8) -> Extent {
+        let mut m = self;
+        if m.ended {
             return m;
         }
-        lines = lines.next(rt, reader, name, buffer);
+        if b == 10 {
+            m.ended = true;
+            return m;
+        }
+        m.length = m.length.saturating_add(1);
+        m.last = b;
+        m
     }
-    m
+
+    fn after(self, bytes: &[u8]) -> Extent {
+        bytes.iter().fold(self, |m, b| m.after_byte(*b))
+    }
+
+    // The bytes before a line's end, which is 13 and 10, or 10 alone.
+    fn without_end(self) -> u64 {
+        if self.ended & (self.last == 13) {
+            return self.length.saturating_sub(1);
+        }
+        self.length
+    }
+}
+
+// As much of the line as comes next.
+impl TakesLines for Extent {
+    fn take(&mut self, _rt: &HostRuntime, line: &[u8], failed: bool) -> bool {
+        *self = self.after(line);
+        self.failed = failed;
+        !self.ended & !line.is_empty()
+    }
 }
 
 // How many bytes of a refused line are shown: those before its end, where its own length is what is wrong or nobody
 // asked for it.
 fn shown_length(number: u8, line: &[u8]) -> usize {
     if (number == format::BROKEN_LINE) | (number == format::AFTER_TRAILER) {
-        let n = length_of(measured(unmeasured(), line));
+        let n = Extent::start().after(line).without_end();
         if n < 50 {
             return n as usize;
         }
@@ -165,7 +145,7 @@ fn put_other_end(page: &mut Page<PAGE>, last: u8) {
 
 // How a line is broken.
 fn put_how(page: &mut Page<PAGE>, m: Extent) {
-    let n = length_of(m);
+    let n = m.without_end();
     if !m.ended {
         page.text(b": the file ends after byte ");
         page.digits(n, 1);
@@ -240,39 +220,41 @@ fn say(rt: &HostRuntime, checked: Checked, line: LineShown, m: Extent, name: &[u
     streams::outcome(rt, rt.write_all(page.filled()))
 }
 
-fn check_file(rt: &HostRuntime, reader: &Reader, name: &[u8]) -> u8 {
+// The line that was refused and stands next, measured up to its end, however far that is.
+fn measured(rt: &HostRuntime, checked: &Checked, input: &Input, buffer: &mut [u8]) -> Extent {
+    let lines = checked.lines;
+    let mut m = Extent::start();
+    if m.take(rt, lines.line(buffer), lines.failed) {
+        lines.each(rt, input, buffer, &mut m);
+    }
+    m
+}
+
+fn check_file(rt: &HostRuntime, input: &Input) -> u8 {
     let mut buffer = [0u8; streams::BUFFER];
-    let checked = checking::check(rt, reader, name, &mut buffer);
+    let checked = checking::check(rt, input, &mut buffer);
     let answer = checked.answer;
     let lines = checked.lines;
     let line = shown(answer.number, lines.line(&buffer));
-    let mut m = unmeasured();
+    let mut m = Extent::start();
     if answer.number == format::BROKEN_LINE {
-        m = measured_on(rt, lines, reader, name, &mut buffer);
+        m = measured(rt, &checked, input, &mut buffer);
     }
     if lines.failed | m.failed {
         return streams::status_of(answer.number, false);
     }
-    streams::status_after(answer.number, true, say(rt, checked, line, m, name))
+    streams::status_after(answer.number, true, say(rt, checked, line, m, input.name))
 }
 
-// The file of argument i, or standard input.
-fn check_input(rt: &HostRuntime, i: usize) -> u8 {
-    let mut name = [0u8; 4096];
-    let input = streams::open(rt, i, &mut name);
-    if input.reader.is_open() {
-        return check_file(rt, &input.reader, &name[..input.characters]);
+#[derive(Drop)]
+struct Checking;
+
+impl Program for Checking {
+    fn input(&mut self, rt: &HostRuntime, input: Input) -> u8 {
+        check_file(rt, &input)
     }
-    streams::status_of(0, false)
 }
 
 fn main(rt: HostRuntime) -> ExitCode {
-    let mut status = check_input(&rt, 1);
-    for i in 2..usize::MAX {
-        if (status == streams::UNREAD) | !streams::is_given(rt.arg(i, &mut [])) {
-            break;
-        }
-        status = streams::worse(status, check_input(&rt, i));
-    }
-    streams::end(status)
+    streams::end(streams::each_input(&rt, 1, &mut Checking))
 }

@@ -11,20 +11,17 @@ use reading::State;
 use record::types::type_text;
 use std::process::ExitCode;
 use std::rt::Env;
-use streams::{Lines, Printed, Reader};
+use streams::{Input, Lines, Printed, Program, TakesLines};
 
 // How many bytes are printed of a file at most.
 const PAGE: usize = 8192;
 
-// A search so far: the answer to the last line of the file, the state after it, what was found, whether it was the
-// last line, and whether all was read.
+// A search so far: the answer to the last line of the file, the state after it, and what was found.
 #[derive(Clone, Copy)]
 struct Sought {
     answer: Answer,
     state: State,
     search: Search,
-    ended: bool,
-    done: bool,
 }
 
 // The item, where there is one.
@@ -43,36 +40,25 @@ fn put_item(page: &mut Page<PAGE>, fields: ItemFields, texts: &[u8; 128]) {
     }
 }
 
-// One line of what the buffer holds, or the end where there is none; whether all was read until there.
-fn seek_line(before: Sought, rest: &[u8], failed: bool) -> Sought {
-    let state = before.state;
-    let r = state.line(rest);
-    let next = r.next;
-    let so_far = before.search;
-    let search = so_far.lines(rest);
-    let answer = r.answer;
-    Sought {
-        answer,
-        state: next,
-        search,
-        ended: (answer.number != 0) | (rest.len() == 0),
-        done: !failed,
+impl Sought {
+    // Before the first line.
+    fn start(search: Search) -> Sought {
+        Sought {
+            answer: Answer::accepted(0),
+            state: State::start(),
+            search,
+        }
     }
 }
 
-// The lines of an input, up to the first that is refused.
-fn seek_lines(rt: &HostRuntime, before: Sought, reader: &Reader, name: &[u8]) -> Sought {
-    let mut buffer = [0u8; streams::BUFFER];
-    let mut lines = Lines::start();
-    let mut sought = before;
-    for _ in 0..u64::MAX {
-        lines = lines.next(rt, reader, name, &mut buffer);
-        sought = seek_line(sought, lines.line(&buffer), lines.failed);
-        if sought.ended {
-            return sought;
-        }
+impl TakesLines for Sought {
+    fn take(&mut self, _rt: &HostRuntime, line: &[u8], _failed: bool) -> bool {
+        let r = self.state.line(line);
+        self.search = self.search.lines(line);
+        self.answer = r.answer;
+        self.state = r.next;
+        (self.answer.number == 0) & !line.is_empty()
     }
-    sought
 }
 
 // What is printed of a file, and what became of that.
@@ -90,51 +76,26 @@ fn print(
     streams::outcome(rt, rt.write_all(page.filled()))
 }
 
-fn unsought(search: Search) -> Sought {
-    let state = State::start();
-    let answer = Answer::accepted(0);
-    Sought {
-        answer,
-        state,
-        search,
-        ended: false,
-        done: true,
-    }
-}
-
-fn seek_in_file(
-    rt: &HostRuntime,
-    reader: &Reader,
-    name: &[u8],
-    several: bool,
+// Looks for one item in each file.
+#[derive(Drop)]
+struct Seeking {
     wanted: Search,
-) -> u8 {
-    let sought = seek_lines(rt, unsought(wanted), reader, name);
-    let answer = sought.answer;
-    let search = sought.search;
-    if sought.done {
-        let mut texts = [32u8; 128];
-        let found = search.answered(answer, &mut texts);
-        let printed = print(rt, found, &texts, name, several);
-        return streams::status_after(found.answer.number, true, printed);
-    }
-    streams::status_of(answer.number, false)
+    several: bool,
 }
 
-// The file of argument i, or standard input.
-fn seek_in_input(rt: &HostRuntime, i: usize, several: bool, wanted: Search) -> u8 {
-    let mut name = [0u8; 4096];
-    let input = streams::open(rt, i, &mut name);
-    if input.reader.is_open() {
-        return seek_in_file(
-            rt,
-            &input.reader,
-            &name[..input.characters],
-            several,
-            wanted,
-        );
+impl Program for Seeking {
+    fn input(&mut self, rt: &HostRuntime, input: Input) -> u8 {
+        let mut buffer = [0u8; streams::BUFFER];
+        let mut sought = Sought::start(self.wanted);
+        let lines = Lines::start().each(rt, &input, &mut buffer, &mut sought);
+        if lines.failed {
+            return streams::status_of(sought.answer.number, false);
+        }
+        let mut texts = [32u8; 128];
+        let found = sought.search.answered(sought.answer, &mut texts);
+        let printed = print(rt, found, &texts, input.name, self.several);
+        streams::status_after(found.answer.number, true, printed)
     }
-    streams::status_of(0, false)
 }
 
 // A number with one more digit. Beyond 17 digits it stays as large as it is: no file has so many batches or items.
@@ -169,16 +130,11 @@ fn number(rt: &HostRuntime, i: usize) -> Digits {
 }
 
 fn seek(rt: &HostRuntime, batch: u64, item: u64) -> u8 {
-    let wanted = Search::start(batch, item);
-    let several = streams::is_given(rt.arg(4, &mut []));
-    let mut status = seek_in_input(rt, 3, several, wanted);
-    for i in 4..usize::MAX {
-        if (status == streams::UNREAD) | !streams::is_given(rt.arg(i, &mut [])) {
-            break;
-        }
-        status = streams::worse(status, seek_in_input(rt, i, several, wanted));
-    }
-    status
+    let mut seeking = Seeking {
+        wanted: Search::start(batch, item),
+        several: streams::is_given(rt.arg(4, &mut [])),
+    };
+    streams::each_input(rt, 3, &mut seeking)
 }
 
 fn seek_asked(rt: &HostRuntime) -> u8 {

@@ -1,3 +1,4 @@
 pub mod Taking
 pub mod Carrying
 pub mod Telling
+pub mod Turning

@@ -1,6 +1,6 @@
 -- What was read is within the buffer.
 use Rattle.std.proofs.Common.{◌-◌, ◌≤◌, length}
-use Rattle.streams.proofs.fill.Given as goal
+use Rattle.streams.proofs.input.Input.fill.Given as goal
 
 abbrev pub invariant-loop-done : goal.invariant-loop-done
 invariant-loop-done l = l.done ≤ length l.buffer
