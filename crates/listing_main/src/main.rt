@@ -71,7 +71,7 @@ fn make_room(rt: &HostRuntime, before: Listed, page: &mut Page<PAGE>) -> Listed 
     if !page.has_room(512) {
         listed.printed = streams::outcome(rt, rt.write_all(page.filled()));
         listed.done = listed.done & listed.printed.is_whole();
-        page.at = 0;
+        page.clear();
     }
     listed
 }

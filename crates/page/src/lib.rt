@@ -58,6 +58,13 @@ impl<const N: usize> Page<N> {
         part(&self.bytes, 0, self.at)
     }
 
+    // Fills it from the front again.
+    pub fn clear(&mut self)
+        ensures { self.new ≡ (self.old.0, 0) }
+    {
+        self.at = 0;
+    }
+
     // Whether that many bytes more have room.
     pub fn has_room(&self, bytes: usize) -> bool
         ensures { result ≡ leb (self.now.1 + bytes) (length self.now.0) }
@@ -121,7 +128,7 @@ impl<const N: usize> Page<N> {
     pub fn input(&mut self, name: &[u8], several: bool)
         ensures { self.new ≡ with_input self.old.0 name.now several }
     {
-        self.at = 0;
+        self.clear();
         if several {
             self.line(b"input=", name);
         }

@@ -126,10 +126,10 @@ fn copy_line(before: Copied, rest: &[u8], page: &mut Page<BUFFER>) -> Copied {
 // Writes what is gathered, where the next line might not fit or there is none.
 fn make_room(rt: &HostRuntime, before: Copied, page: &mut Page<BUFFER>) -> Copied {
     let mut copied = before;
-    if copied.ended | (BUFFER <= page.at) {
+    if copied.ended | !page.has_room(writer::LINE) {
         copied.printed = streams::outcome(rt, rt.write_all(page.filled()));
         copied.ended = copied.ended | !copied.printed.is_whole();
-        page.at = 0;
+        page.clear();
     }
     copied
 }
