@@ -2,3 +2,4 @@ pub mod Taking
 pub mod Carrying
 pub mod Telling
 pub mod Turning
+pub mod Ending

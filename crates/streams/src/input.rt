@@ -121,7 +121,6 @@ pub trait Program {
 }
 
 // The status of the input of argument i. One that cannot be opened has failed.
-#[tactic(auto, unfolding(crate::specs::Status::status_of, machine::specs::Lists::pick))]
 fn status_of_input<P: Program>(rt: &HostRuntime, i: usize, program: &mut P) -> u8
     ensures { EndsAs P.ends result }
 {
