@@ -89,43 +89,26 @@ fn shown_length(number: u8, line: &[u8]) -> usize {
     50
 }
 
-// A byte as it is shown: a full stop for one outside 32 to 126, and a space after the last.
-fn visible(bytes: &[u8], i: usize) -> u8 {
-    if bytes.len() <= i {
-        return 32;
-    }
-    let b = bytes[i];
+// A byte as it is shown: a full stop for one outside 32 to 126.
+fn visible(b: u8) -> u8 {
     if (b < 32) | (126 < b) {
         return 46;
     }
     b
 }
 
-fn shown_text(bytes: &[u8]) -> [u8; 50] {
-    let mut text = [32u8; 50];
-    for i in 0..50 {
-        text[i] = visible(bytes, i);
-    }
-    text
-}
-
-// How many characters of a text there are up to its last that is no space.
-fn filled(text: &[u8]) -> usize {
-    let mut n = 0;
-    for (i, b) in text.iter().enumerate() {
-        if *b != 32 {
-            n = i + 1;
-        }
-    }
-    n
-}
-
+// Its characters up to the last that is no space.
 fn shown(number: u8, line: &[u8]) -> LineShown {
     let n = shown_length(number, line);
-    let text = shown_text(part(line, 0, n));
-    let count = filled(&text);
-    let code = code_of(line);
-    LineShown { code, text, count }
+    let mut text = [32u8; 50];
+    for (shown, b) in text.iter_mut().zip(part(line, 0, n)) {
+        *shown = visible(*b);
+    }
+    LineShown {
+        code: code_of(line),
+        text,
+        count: text.iter().rposition(|b| *b != 32).map_or(0, |i| i + 1),
+    }
 }
 
 fn put_where(page: &mut [u8], at: usize, line: u64, column: u8, code: Code) -> usize {
