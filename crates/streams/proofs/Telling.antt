@@ -1,7 +1,10 @@
 -- What was written, read or told, from what calls answered. Assumes nothing.
 use mathlib.Core.Path.{◌≡◌, refl, sym, ap, ◌∙◌}
 use mathlib.Core.Bool.{Bool}
-use Rattle.std.specs.Prelude.{Result, Ok, Err, is_ok}
+use Rattle.std.specs.Prelude.{Result, Ok, Err, is_ok, ℕ, List, length, take}
+use Rattle.std.proofs.Common.{length-take-le, subst}
+use Rattle.std.specs.Io.{WritesAtMost}
+use Rattle.std.specs.declared.env.FillError.{FillError}
 use Rattle.std.specs.IoError.{error_kind}
 use Rattle.std.specs.declared.io.Error.{Error}
 use Rattle.std.specs.declared.io.ErrorKind.{ErrorKind}
@@ -26,3 +29,6 @@ module _ {A : Type 0} {w : Result A Error} where
 
     pub printed_failed : (k ≡ BrokenPipe → ⊥) → Failed ≡ printed_of w
     printed_failed n = failed_so k n ∙ ap failed_by f ∙ sym (ap printed_of e)
+
+pub prefix_length : {w : Result ℕ FillError} (n : ℕ) (xs : List ℕ) → WritesAtMost w xs → w ≡ Ok n → n ≡ length (take n xs)
+prefix_length n xs h e = sym (length-take-le n xs (subst (λ v. WritesAtMost v xs) e h))
