@@ -3,7 +3,6 @@
 #![tactic(auto)]
 
 use field::bytes::{is_digits, part};
-use field::numbers::Digits;
 use format::Answer;
 use items::{ItemFields, ItemRead, Search};
 use page::Page;
@@ -98,35 +97,21 @@ impl Program for Seeking {
     }
 }
 
-// A number with one more digit. Beyond 17 digits it stays as large as it is: no file has so many batches or items.
-fn with_digit(value: u64, digit: u8) -> u64 {
-    if 99999999999999999 < value {
-        return value;
-    }
-    if digit < 48 {
-        return value;
-    }
-    let units = digit - 48;
-    value * 10 + units as u64
-}
-
-// The number that the digits are.
-fn number_of(digits: &[u8]) -> Digits {
-    let ok = (0 < digits.len()) & is_digits(digits);
-    let mut value: u64 = 0;
-    for digit in digits {
-        value = with_digit(value, *digit);
-    }
-    Digits { ok, value }
+// The number that the digits are, or the largest: no file has so many batches or items.
+fn number_of(digits: &[u8]) -> u64 {
+    digits.iter().fold(0, |value: u64, digit| {
+        value
+            .saturating_mul(10)
+            .saturating_add(u64::from(digit.saturating_sub(48)))
+    })
 }
 
 // The number that argument i is. Without that argument, or where it is longer than any number, there is none.
-fn number(rt: &HostRuntime, i: usize) -> Digits {
+fn number(rt: &HostRuntime, i: usize) -> Option<u64> {
     let mut text = [0u8; 4096];
-    match rt.arg(i, &mut text) {
-        Ok(n) => number_of(part(&text, 0, n)),
-        Err(_) => number_of(b""),
-    }
+    let n = rt.arg(i, &mut text).ok()?;
+    let digits = part(&text, 0, n);
+    (!digits.is_empty() & is_digits(digits)).then(|| number_of(digits))
 }
 
 fn seek(rt: &HostRuntime, batch: u64, item: u64) -> u8 {
@@ -138,10 +123,8 @@ fn seek(rt: &HostRuntime, batch: u64, item: u64) -> u8 {
 }
 
 fn seek_asked(rt: &HostRuntime) -> u8 {
-    let batch = number(rt, 1);
-    let item = number(rt, 2);
-    if batch.ok & item.ok {
-        return seek(rt, batch.value, item.value);
+    if let (Some(batch), Some(item)) = (number(rt, 1), number(rt, 2)) {
+        return seek(rt, batch, item);
     }
     let _ = eprintln!(rt; "usage: clieop item B K [FILE..], where B and K are numbers");
     streams::status_of(0, false)
