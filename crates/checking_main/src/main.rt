@@ -6,13 +6,16 @@
 use checking::Checked;
 use field::bytes::part;
 use format::{Answer, Kind};
-use page::{put_digits, put_euros, put_text};
+use page::Page;
 use record::Totals;
 use record::kinds::code_of;
 use std::process::ExitCode;
 use std::rt::Env;
-use streams::{Lines, Printed, Reader};
+use streams::{Input, Printed, Program, TakesLines};
 use telling::{put_field, put_name, put_words};
+
+// How many bytes are printed of a file at most.
+const PAGE: usize = 8192;
 
 // A line up to its byte 10, so far: its bytes, the last of them, whether that 10 was met, and whether a read failed.
 #[derive(Clone, Copy)]
@@ -23,85 +26,74 @@ struct Extent {
     failed: bool,
 }
 
-// A refused line as it is shown: its code, its first 50 characters, and how many of them.
+// A refused line as it is shown: its code, and its first 50 characters, with spaces after the last.
 #[derive(Clone, Copy)]
 struct LineShown {
     code: Option<Kind>,
     text: [u8; 50],
-    count: usize,
 }
 
-fn unmeasured() -> Extent {
-    Extent {
-        length: 0,
-        last: 0,
-        ended: false,
-        failed: false,
-    }
-}
-
-fn with_byte(before: Extent, b: u8) -> Extent {
-    let mut m = before;
-    if m.ended {
-        return m;
-    }
-    if b == 10 {
-        m.ended = true;
-        return m;
-    }
-    if m.length < u64::MAX {
-        m.length += 1;
-    }
-    m.last = b;
-    m
-}
-
-fn measured(before: Extent, bytes: &[u8]) -> Extent {
-    let mut m = before;
-    for b in bytes {
-        m = with_byte(m, *b);
-    }
-    m
-}
-
-// The bytes before a line's end, which is 13 and 10, or 10 alone.
-fn length_of(m: Extent) -> u64 {
-    if m.ended {
-        if m.last == 13 {
-            if 0 < m.length {
-                return m.length - 1;
-            }
+impl LineShown {
+    // The text up to its last character that is no space.
+    fn shown(&self) -> &[u8] {
+        match self.text.iter().rposition(|b| *b != b' ') {
+            Some(last) => &self.text[..last + 1],
+            None => b"",
         }
     }
-    m.length
 }
 
-// The line that stands next, measured up to its end, however far that is.
-fn measured_on(
-    rt: &HostRuntime,
-    start: Lines,
-    reader: &Reader,
-    name: &[u8],
-    buffer: &mut [u8],
-) -> Extent {
-    let mut lines = start;
-    let mut m = unmeasured();
-    for _ in 0..u64::MAX {
-        m = measured(m, lines.line(buffer));
-        if m.ended | (lines.end <= lines.at) {
-            m.failed = lines.failed;
+impl Extent {
+    fn start() -> Extent {
+        Extent {
+            length: 0,
+            last: 0,
+            ended: false,
+            failed: false,
+        }
+    }
+
+    fn after_byte(self, b: u8) -> Extent {
+        let mut m = self;
+        if m.ended {
             return m;
         }
-        lines = lines.next(rt, reader, name, buffer);
+        if b == 10 {
+            m.ended = true;
+            return m;
+        }
+        m.length = m.length.saturating_add(1);
+        m.last = b;
+        m
     }
-    m
+
+    fn after(self, bytes: &[u8]) -> Extent {
+        bytes.iter().fold(self, |m, b| m.after_byte(*b))
+    }
+
+    // The bytes before a line's end, which is 13 and 10, or 10 alone.
+    fn without_end(self) -> u64 {
+        if self.ended & (self.last == 13) {
+            return self.length.saturating_sub(1);
+        }
+        self.length
+    }
+}
+
+// As much of the line as comes next.
+impl TakesLines for Extent {
+    fn take(&mut self, _rt: &HostRuntime, line: &[u8], failed: bool) -> bool {
+        *self = self.after(line);
+        self.failed = failed;
+        !self.ended & !line.is_empty()
+    }
 }
 
 // How many bytes of a refused line are shown: those before its end, where its own length is what is wrong or nobody
 // asked for it.
 fn shown_length(number: u8, line: &[u8]) -> usize {
     if (number == format::BROKEN_LINE) | (number == format::AFTER_TRAILER) {
-        let n = length_of(measured(unmeasured(), line));
+        let n = Extent::start().after(line).without_end();
         if n < 50 {
             return n as usize;
         }
@@ -109,191 +101,160 @@ fn shown_length(number: u8, line: &[u8]) -> usize {
     50
 }
 
-// A byte as it is shown: a full stop for one outside 32 to 126, and a space after the last.
-fn visible(bytes: &[u8], i: usize) -> u8 {
-    if bytes.len() <= i {
-        return 32;
+// A byte as it is shown: a full stop for one outside 32 to 126.
+fn visible(b: u8) -> u8 {
+    match b {
+        32..=126 => b,
+        _ => b'.',
     }
-    let b = bytes[i];
-    if (b < 32) | (126 < b) {
-        return 46;
-    }
-    b
-}
-
-fn shown_text(bytes: &[u8]) -> [u8; 50] {
-    let mut text = [32u8; 50];
-    for i in 0..50 {
-        text[i] = visible(bytes, i);
-    }
-    text
-}
-
-// How many characters of a text there are up to its last that is no space.
-fn filled(text: &[u8]) -> usize {
-    let mut n = 0;
-    for (i, b) in text.iter().enumerate() {
-        if *b != 32 {
-            n = i + 1;
-        }
-    }
-    n
 }
 
 fn shown(number: u8, line: &[u8]) -> LineShown {
-    let n = shown_length(number, line);
-    let text = shown_text(part(line, 0, n));
-    let count = filled(&text);
-    let code = code_of(line);
-    LineShown { code, text, count }
+    let mut text = [b' '; 50];
+    for (shown, b) in text
+        .iter_mut()
+        .zip(part(line, 0, shown_length(number, line)))
+    {
+        *shown = visible(*b);
+    }
+    LineShown {
+        code: code_of(line),
+        text,
+    }
 }
 
-fn put_where(page: &mut [u8], at: usize, line: u64, column: u8, code: Option<Kind>) -> usize {
-    let a = put_text(page, at, b": line ");
-    let b = put_digits(page, a, line, 1);
-    if column == 0 {
-        return b;
+fn put_where(page: &mut Page<PAGE>, answer: Answer, code: Option<Kind>) {
+    page.text(b": line ");
+    page.digits(answer.line, 1);
+    if answer.column != 0 {
+        page.text(b", column ");
+        page.digits(answer.column as u64, 1);
+        page.text(b", ");
+        put_field(page, code, answer.column);
     }
-    let c = put_text(page, b, b", column ");
-    let d = put_digits(page, c, column as u64, 1);
-    let e = put_text(page, d, b", ");
-    put_field(page, e, code, column)
 }
 
 // How a line of 50 characters is broken: its end is not that of the first line.
-fn put_other_end(page: &mut [u8], at: usize, last: u8) -> usize {
+fn put_other_end(page: &mut Page<PAGE>, last: u8) {
     if last == 13 {
-        return put_text(
-            page,
-            at,
-            b": it ends with 13 and 10, the first line with byte 10 alone",
-        );
+        page.text(b": it ends with 13 and 10, the first line with byte 10 alone");
+    } else {
+        page.text(b": it ends with byte 10 alone, the first line with 13 and 10");
     }
-    put_text(
-        page,
-        at,
-        b": it ends with byte 10 alone, the first line with 13 and 10",
-    )
 }
 
-// How a line is broken, where it is.
-fn put_how(page: &mut [u8], at: usize, number: u8, m: Extent) -> usize {
-    let n = length_of(m);
-    if number != format::BROKEN_LINE {
-        return at;
-    }
+// How a line is broken.
+fn put_how(page: &mut Page<PAGE>, m: Extent) {
+    let n = m.without_end();
     if !m.ended {
-        let a = put_text(page, at, b": the file ends after byte ");
-        let b = put_digits(page, a, n, 1);
-        return put_text(page, b, b" of it");
+        page.text(b": the file ends after byte ");
+        page.digits(n, 1);
+        page.text(b" of it");
+    } else if n == 50 {
+        put_other_end(page, m.last);
+    } else {
+        page.text(b": its length is ");
+        page.digits(n, 1);
+        page.text(b", not 50");
     }
-    if n == 50 {
-        return put_other_end(page, at, m.last);
-    }
-    let a = put_text(page, at, b": its length is ");
-    let b = put_digits(page, a, n, 1);
-    put_text(page, b, b", not 50")
 }
 
-fn put_what(page: &mut [u8], at: usize, number: u8, m: Extent) -> usize {
-    let a = put_text(page, at, b": ");
-    let b = put_words(page, a, number);
-    let c = put_how(page, b, number, m);
-    let d = put_text(page, c, b" (answer ");
-    let e = put_digits(page, d, number as u64, 1);
-    put_text(page, e, b")\n")
+fn put_what(page: &mut Page<PAGE>, number: u8, m: Extent) {
+    page.text(b": ");
+    put_words(page, number);
+    if number == format::BROKEN_LINE {
+        put_how(page, m);
+    }
+    page.text(b" (answer ");
+    page.digits(number as u64, 1);
+    page.text(b")\n");
 }
 
 // The line as it stands, and the mark under its column.
-fn put_line_as_is(page: &mut [u8], at: usize, line: LineShown, column: u8) -> usize {
-    let text = line.text;
-    let a = put_text(page, at, b"  ");
-    let b = put_text(page, a, part(&text, 0, line.count));
-    let c = put_text(page, b, b"\n");
-    if column == 0 {
-        return c;
+fn put_line_as_is(page: &mut Page<PAGE>, line: LineShown, column: u8) {
+    page.text(b"  ");
+    page.text(line.shown());
+    page.text(b"\n");
+    if column != 0 {
+        page.text(&[32; 256][..column as usize + 1]);
+        page.text(b"^\n");
     }
-    let spaces = [32u8; 256];
-    let d = put_text(page, c, part(&spaces, 0, column as usize + 1));
-    put_text(page, d, b"^\n")
 }
 
-fn put_refusal(page: &mut [u8], at: usize, answer: Answer, line: LineShown, m: Extent) -> usize {
-    let code = line.code;
-    let a = put_where(page, at, answer.line, answer.column, code);
-    let b = put_what(page, a, answer.number, m);
-    if answer.number == format::ENDS_EARLY {
-        return b;
+fn put_refusal(page: &mut Page<PAGE>, answer: Answer, line: LineShown, m: Extent) {
+    put_where(page, answer, line.code);
+    put_what(page, answer.number, m);
+    if answer.number != format::ENDS_EARLY {
+        put_line_as_is(page, line, answer.column);
     }
-    put_line_as_is(page, b, line, answer.column)
 }
 
-fn put_items(page: &mut [u8], at: usize, items: u64) -> usize {
-    let a = put_digits(page, at, items, 1);
+fn put_items(page: &mut Page<PAGE>, items: u64) {
+    page.digits(items, 1);
     if items == 1 {
-        return put_text(page, a, b" item");
+        page.text(b" item");
+    } else {
+        page.text(b" items");
     }
-    put_text(page, a, b" items")
 }
 
-fn put_acceptance(page: &mut [u8], at: usize, lines: u64, totals: Totals) -> usize {
-    let a = put_text(page, at, b": accepted, ");
-    let b = put_digits(page, a, lines, 1);
-    let c = put_text(page, b, b" lines, ");
-    let d = put_items(page, c, totals.items);
-    let e = put_text(page, d, b", ");
-    let f = put_euros(page, e, totals.amount);
-    put_text(page, f, b"\n")
+fn put_acceptance(page: &mut Page<PAGE>, lines: u64, totals: Totals) {
+    page.text(b": accepted, ");
+    page.digits(lines, 1);
+    page.text(b" lines, ");
+    put_items(page, totals.items);
+    page.text(b", ");
+    page.euros(totals.amount);
+    page.text(b"\n");
 }
 
 // What is printed of a file, and what became of that.
 fn say(rt: &HostRuntime, checked: Checked, line: LineShown, m: Extent, name: &[u8]) -> Printed {
-    let answer = checked.answer;
-    let state = checked.state;
-    let totals = state.totals;
-    let mut page = [0u8; 8192];
-    let a = put_name(&mut page, 0, name);
-    if answer.number == 0 {
-        let b = put_acceptance(&mut page, a, answer.line, totals);
-        return streams::outcome(rt, rt.write_all(part(&page, 0, b)));
+    let mut page: Page<PAGE> = Page::blank();
+    put_name(&mut page, name);
+    if checked.answer.number == format::ACCEPTED {
+        put_acceptance(&mut page, checked.answer.line, checked.state.totals);
+    } else {
+        put_refusal(&mut page, checked.answer, line, m);
     }
-    let b = put_refusal(&mut page, a, answer, line, m);
-    streams::outcome(rt, rt.write_all(part(&page, 0, b)))
+    streams::outcome(rt, rt.write_all(page.filled()))
 }
 
-fn check_file(rt: &HostRuntime, reader: &Reader, name: &[u8]) -> u8 {
+// The line that was refused and stands next, measured up to its end, however far that is.
+fn measured(rt: &HostRuntime, checked: &Checked, input: &Input, buffer: &mut [u8]) -> Extent {
+    let lines = checked.lines;
+    let mut m = Extent::start();
+    if m.take(rt, lines.line(buffer), lines.failed) {
+        lines.each(rt, input, buffer, &mut m);
+    }
+    m
+}
+
+fn check_file(rt: &HostRuntime, input: &Input) -> u8 {
     let mut buffer = [0u8; streams::BUFFER];
-    let checked = checking::check(rt, reader, name, &mut buffer);
+    let checked = checking::check(rt, input, &mut buffer);
     let answer = checked.answer;
     let lines = checked.lines;
     let line = shown(answer.number, lines.line(&buffer));
-    let mut m = unmeasured();
+    let mut m = Extent::start();
     if answer.number == format::BROKEN_LINE {
-        m = measured_on(rt, lines, reader, name, &mut buffer);
+        m = measured(rt, &checked, input, &mut buffer);
     }
     if lines.failed | m.failed {
         return streams::status_of(answer.number, false);
     }
-    streams::status_after(answer.number, true, say(rt, checked, line, m, name))
+    streams::status_after(answer.number, true, say(rt, checked, line, m, input.name))
 }
 
-// The file of argument i, or standard input.
-fn check_input(rt: &HostRuntime, i: usize) -> u8 {
-    let mut name = [0u8; 4096];
-    let input = streams::open(rt, i, &mut name);
-    if input.reader.is_open() {
-        return check_file(rt, &input.reader, &name[..input.characters]);
+#[derive(Drop)]
+struct Checking;
+
+impl Program for Checking {
+    fn input(&mut self, rt: &HostRuntime, input: Input) -> u8 {
+        check_file(rt, &input)
     }
-    streams::status_of(0, false)
 }
 
 fn main(rt: HostRuntime) -> ExitCode {
-    let mut status = check_input(&rt, 1);
-    for i in 2..usize::MAX {
-        if (status == streams::UNREAD) | !streams::is_given(rt.arg(i, &mut [])) {
-            break;
-        }
-        status = streams::worse(status, check_input(&rt, i));
-    }
-    streams::end(status)
+    streams::end(streams::each_input(&rt, 1, &mut Checking))
 }

@@ -3,200 +3,128 @@
 #![tactic(auto)]
 
 use field::bytes::{is_digits, part};
-use field::numbers::Digits;
-use format::{Answer, TransactionType};
+use format::Answer;
 use items::{ItemFields, ItemRead, Search};
-use page::{put_answer, put_input, put_line, put_number};
+use page::Page;
 use reading::State;
 use record::types::type_text;
 use std::process::ExitCode;
 use std::rt::Env;
-use streams::{Lines, Printed, Reader};
+use streams::{Input, Lines, Printed, Program, TakesLines};
 
-// A search so far: the answer to the last line of the file, the state after it, what was found, whether it was the
-// last line, and whether all was read.
+// How many bytes are printed of a file at most.
+const PAGE: usize = 8192;
+
+// A search so far: the answer to the last line of the file, the state after it, and what was found.
 #[derive(Clone, Copy)]
 struct Sought {
     answer: Answer,
     state: State,
     search: Search,
-    ended: bool,
-    done: bool,
-}
-
-fn put_numbers(page: &mut [u8], at: usize, fields: ItemFields) -> usize {
-    let a = put_number(page, at, b"amount=", fields.amount, 1);
-    let b = put_number(page, a, b"payer=", fields.payer, 10);
-    put_number(page, b, b"beneficiary=", fields.beneficiary, 10)
-}
-
-fn put_texts(page: &mut [u8], at: usize, fields: ItemFields) -> usize {
-    let reference = fields.reference;
-    let name = fields.name;
-    let a = put_line(page, at, b"reference=", &reference);
-    put_line(page, a, b"name=", &name)
-}
-
-fn put_descriptions(page: &mut [u8], at: usize, texts: &[u8]) -> usize {
-    let a = put_line(page, at, b"description1=", part(texts, 0, 32));
-    let b = put_line(page, a, b"description2=", part(texts, 32, 32));
-    let c = put_line(page, b, b"description3=", part(texts, 64, 32));
-    put_line(page, c, b"description4=", part(texts, 96, 32))
 }
 
 // The item, where there is one.
-fn put_item(page: &mut [u8], at: usize, fields: ItemFields, texts: &[u8]) -> usize {
-    let kind = fields.kind;
-    match kind {
-        Some(t) => {
-            let a = put_line(page, at, b"type=", &type_text(t));
-            let b = put_numbers(page, a, fields);
-            let c = put_texts(page, b, fields);
-            put_descriptions(page, c, texts)
-        }
-        None => at,
+fn put_item(page: &mut Page<PAGE>, fields: ItemFields, texts: &[u8; 128]) {
+    if let Some(kind) = fields.kind {
+        page.line(b"type=", &type_text(kind));
+        page.number(b"amount=", fields.amount, 1);
+        page.number(b"payer=", fields.payer, 10);
+        page.number(b"beneficiary=", fields.beneficiary, 10);
+        page.line(b"reference=", &fields.reference);
+        page.line(b"name=", &fields.name);
+        page.line(b"description1=", &texts[..32]);
+        page.line(b"description2=", &texts[32..64]);
+        page.line(b"description3=", &texts[64..96]);
+        page.line(b"description4=", &texts[96..]);
     }
 }
 
-// One line of what the buffer holds, or the end where there is none; whether all was read until there.
-fn seek_line(before: Sought, rest: &[u8], failed: bool) -> Sought {
-    let state = before.state;
-    let r = state.line(rest);
-    let next = r.next;
-    let so_far = before.search;
-    let search = so_far.lines(rest);
-    let answer = r.answer;
-    Sought {
-        answer,
-        state: next,
-        search,
-        ended: (answer.number != 0) | (rest.len() == 0),
-        done: !failed,
+impl Sought {
+    // Before the first line.
+    fn start(search: Search) -> Sought {
+        Sought {
+            answer: Answer::accepted(0),
+            state: State::start(),
+            search,
+        }
     }
 }
 
-// The lines of an input, up to the first that is refused.
-fn seek_lines(rt: &HostRuntime, before: Sought, reader: &Reader, name: &[u8]) -> Sought {
-    let mut buffer = [0u8; streams::BUFFER];
-    let mut lines = Lines::start();
-    let mut sought = before;
-    for _ in 0..u64::MAX {
-        lines = lines.next(rt, reader, name, &mut buffer);
-        sought = seek_line(sought, lines.line(&buffer), lines.failed);
-        if sought.ended {
-            return sought;
-        }
+impl TakesLines for Sought {
+    fn take(&mut self, _rt: &HostRuntime, line: &[u8], _failed: bool) -> bool {
+        let r = self.state.line(line);
+        self.search = self.search.lines(line);
+        self.answer = r.answer;
+        self.state = r.next;
+        (self.answer.number == 0) & !line.is_empty()
     }
-    sought
 }
 
 // What is printed of a file, and what became of that.
-fn print(rt: &HostRuntime, found: ItemRead, texts: &[u8], name: &[u8], several: bool) -> Printed {
-    let mut page = [0u8; 8192];
-    let fields = found.fields;
-    let a = put_input(&mut page, name, several);
-    let b = put_item(&mut page, a, fields, texts);
-    let answer = found.answer;
-    let c = put_answer(&mut page, b, answer);
-    streams::outcome(rt, rt.write_all(part(&page, 0, c)))
-}
-
-fn unsought(search: Search) -> Sought {
-    let state = State::start();
-    let answer = Answer::accepted(0);
-    Sought {
-        answer,
-        state,
-        search,
-        ended: false,
-        done: true,
-    }
-}
-
-fn seek_in_file(
+fn print(
     rt: &HostRuntime,
-    reader: &Reader,
+    found: ItemRead,
+    texts: &[u8; 128],
     name: &[u8],
     several: bool,
+) -> Printed {
+    let mut page: Page<PAGE> = Page::blank();
+    page.input(name, several);
+    put_item(&mut page, found.fields, texts);
+    page.answer(found.answer);
+    streams::outcome(rt, rt.write_all(page.filled()))
+}
+
+// Looks for one item in each file.
+#[derive(Drop)]
+struct Seeking {
     wanted: Search,
-) -> u8 {
-    let sought = seek_lines(rt, unsought(wanted), reader, name);
-    let answer = sought.answer;
-    let search = sought.search;
-    if sought.done {
+    several: bool,
+}
+
+impl Program for Seeking {
+    fn input(&mut self, rt: &HostRuntime, input: Input) -> u8 {
+        let mut buffer = [0u8; streams::BUFFER];
+        let mut sought = Sought::start(self.wanted);
+        let lines = Lines::start().each(rt, &input, &mut buffer, &mut sought);
+        if lines.failed {
+            return streams::status_of(sought.answer.number, false);
+        }
         let mut texts = [32u8; 128];
-        let found = search.answered(answer, &mut texts);
-        let printed = print(rt, found, &texts, name, several);
-        return streams::status_after(found.answer.number, true, printed);
+        let found = sought.search.answered(sought.answer, &mut texts);
+        let printed = print(rt, found, &texts, input.name, self.several);
+        streams::status_after(found.answer.number, true, printed)
     }
-    streams::status_of(answer.number, false)
 }
 
-// The file of argument i, or standard input.
-fn seek_in_input(rt: &HostRuntime, i: usize, several: bool, wanted: Search) -> u8 {
-    let mut name = [0u8; 4096];
-    let input = streams::open(rt, i, &mut name);
-    if input.reader.is_open() {
-        return seek_in_file(
-            rt,
-            &input.reader,
-            &name[..input.characters],
-            several,
-            wanted,
-        );
-    }
-    streams::status_of(0, false)
-}
-
-// A number with one more digit. Beyond 17 digits it stays as large as it is: no file has so many batches or items.
-fn with_digit(value: u64, digit: u8) -> u64 {
-    if 99999999999999999 < value {
-        return value;
-    }
-    if digit < 48 {
-        return value;
-    }
-    let units = digit - 48;
-    value * 10 + units as u64
-}
-
-// The number that the digits are.
-fn number_of(digits: &[u8]) -> Digits {
-    let ok = (0 < digits.len()) & is_digits(digits);
-    let mut value: u64 = 0;
-    for digit in digits {
-        value = with_digit(value, *digit);
-    }
-    Digits { ok, value }
+// The number that the digits are, or the largest: no file has so many batches or items.
+fn number_of(digits: &[u8]) -> u64 {
+    digits.iter().fold(0, |value: u64, digit| {
+        value
+            .saturating_mul(10)
+            .saturating_add(u64::from(digit.saturating_sub(48)))
+    })
 }
 
 // The number that argument i is. Without that argument, or where it is longer than any number, there is none.
-fn number(rt: &HostRuntime, i: usize) -> Digits {
+fn number(rt: &HostRuntime, i: usize) -> Option<u64> {
     let mut text = [0u8; 4096];
-    match rt.arg(i, &mut text) {
-        Ok(n) => number_of(part(&text, 0, n)),
-        Err(_) => number_of(b""),
-    }
+    let n = rt.arg(i, &mut text).ok()?;
+    let digits = part(&text, 0, n);
+    (!digits.is_empty() & is_digits(digits)).then(|| number_of(digits))
 }
 
 fn seek(rt: &HostRuntime, batch: u64, item: u64) -> u8 {
-    let wanted = Search::start(batch, item);
-    let several = streams::is_given(rt.arg(4, &mut []));
-    let mut status = seek_in_input(rt, 3, several, wanted);
-    for i in 4..usize::MAX {
-        if (status == streams::UNREAD) | !streams::is_given(rt.arg(i, &mut [])) {
-            break;
-        }
-        status = streams::worse(status, seek_in_input(rt, i, several, wanted));
-    }
-    status
+    let mut seeking = Seeking {
+        wanted: Search::start(batch, item),
+        several: streams::is_given(rt.arg(4, &mut [])),
+    };
+    streams::each_input(rt, 3, &mut seeking)
 }
 
 fn seek_asked(rt: &HostRuntime) -> u8 {
-    let batch = number(rt, 1);
-    let item = number(rt, 2);
-    if batch.ok & item.ok {
-        return seek(rt, batch.value, item.value);
+    if let (Some(batch), Some(item)) = (number(rt, 1), number(rt, 2)) {
+        return seek(rt, batch, item);
     }
     let _ = eprintln!(rt; "usage: clieop item B K [FILE..], where B and K are numbers");
     streams::status_of(0, false)

@@ -1,74 +1,59 @@
--- Lines put on a page. Assumes nothing.
-use Prim.Native.Nat.{ℕ, ◌+◌, ◌-◌, ◌≤◌, ◌<◌}
+-- Texts put on a page. Assumes nothing.
+use Prim.Native.Nat.{ℕ, ◌+◌, ◌≤◌}
 use mathlib.Core.Path.{◌≡◌, refl, sym, ap, ap₂, ◌∙◌}
 use mathlib.Core.List.{List, [], ◌∷◌, ◌++◌, append_assoc}
 use mathlib.Core.Bool.{Bool, true, false}
 use native.Mathlib.Omega.{arith}
-use borrow.Author.Rules.{rules}
-use borrow.Author.Tests.{le-leb, lt-leb, leb-true, ltb-true, ltb-false}
+use borrow.Author.Tests.{le-leb, leb-true}
 use lib.ListN.{length, length-append}
-use lib.Dec.{leb, ltb}
+use lib.Dec.{leb}
 use Rattle.machine.specs.Lists.{pick, pasted, put_in}
-use Rattle.field.proofs.Putting.{put_next}
+use Rattle.field.proofs.Putting.{put_fits, length_pasted, pasted_both}
 use Rattle.page.specs.Lines.{line_of, with_text}
-
--- ## Room
-
-module _ (size at key text : ℕ) where
-  pub room_none : size < at → false ≡ leb (at + (key + (text + 1))) size
-  room_none h = sym (lt-leb (at + (key + (text + 1))) size (omega arith))
-
-  pub room_key : size - at < key → false ≡ leb (at + (key + (text + 1))) size
-  room_key h = sym (lt-leb (at + (key + (text + 1))) size (omega arith))
-
-  pub room_text : at ≤ size → key ≤ size - at → ltb text (size - at - key) ≡ leb (at + (key + (text + 1))) size
-  room_text h k = by (ltb text (size - at - key)) refl
-    where
-      by : (q : Bool) → ltb text (size - at - key) ≡ q → q ≡ leb (at + (key + (text + 1))) size
-      by true e = let l = ltb-true text (size - at - key) e in sym (le-leb (at + (key + (text + 1))) size (omega arith))
-      by false e = let l = ltb-false text (size - at - key) e in sym (lt-leb (at + (key + (text + 1))) size (omega arith))
-
-pub ruleset rooms = (room_none, room_key, room_text, rules)
 
 -- ## A text
 
 module _ (page : List ℕ) (at : ℕ) (text : List ℕ) where
-  pub text_beyond : length page < at → (page, at) ≡ with_text (page, at) text
+  pub text_fits : at + length text ≤ length page → with_text (page, at) text ≡ (pasted page at text, at + length text)
   unfolding with_text pick
-  text_beyond h = rw (lt-leb (at + length text) (length page) (omega arith)) refl
+  text_fits h = rw (le-leb (at + length text) (length page) h) refl
 
-  pub text_left : length page - at < length text → (page, at) ≡ with_text (page, at) text
-  unfolding with_text pick
-  text_left h = rw (lt-leb (at + length text) (length page) (omega arith)) refl
+module _ {r : Bool} {q : List ℕ × ℕ} (page : List ℕ) (at : ℕ) (text : List ℕ) (v : (page, at) ≡ q) (e : r ≡ leb (q.1 + length text) (length q.0)) where
+  pub text_put : {p : List ℕ} → r ≡ true → p ≡ put_in page at text → (p, at + length text) ≡ with_text q text
+  text_put h d =
+      let k : at + length text ≤ length page = leb-true (at + length text) (length page) (ap (λ u. leb (u.1 + length text) (length u.0)) v ∙ sym e ∙ h) in
+      ap (λ u. (u, at + length text)) (put_fits page at text k d) ∙ sym (text_fits page at text k) ∙ ap (λ u. with_text u text) v
 
-  pub text_put : {p : List ℕ} → at ≤ length page → length text ≤ length page - at → p ≡ put_in page at text → (p, at + length text) ≡ with_text (page, at) text
-  unfolding with_text put_in pick
-  text_put h k e = ap (λ u. (u, at + length text)) e ∙ rw (le-leb (at + length text) (length page) (omega arith)) refl
-
-pub ruleset texts = (text_beyond, text_left, text_put, rules)
+pub text_left : {r : Bool} (q : List ℕ × ℕ) (text : List ℕ) → r ≡ leb (q.1 + length text) (length q.0) → r ≡ false → q ≡ with_text q text
+unfolding with_text pick
+text_left q text e h = rw (← e, h) refl
 
 -- ## A line
 
-module _ {r : Bool} (page : List ℕ) (at : ℕ) (key text : List ℕ) (e : r ≡ leb (at + (length key + (length text + 1))) (length page)) where
-  size : length (line_of key text) ≡ length key + (length text + 1)
-  size = rw (length-append, length-append)
+-- one text after the other is both at once
+with_both : (q : List ℕ × ℕ) (s t : List ℕ) → q.1 + (length s + length t) ≤ length q.0 → with_text (with_text q s) t ≡ with_text q (s ++ t)
+with_both q s t h =
+    let page = q.0 in
+    let at = q.1 in
+    let k : at + length s ≤ length page = omega arith in
+    let n : length (pasted page at s) ≡ length page = length_pasted page at s k in
+    let j : at + length s + length t ≤ length (pasted page at s) = omega arith in
+    let l : length (s ++ t) ≡ length s + length t = length-append s t in
+    let m : at + length (s ++ t) ≤ length page = omega arith in
+    let f : at + length s + length t ≡ at + length (s ++ t) = omega arith in
+    ap (λ u. with_text u t) (text_fits page at s k) ∙ text_fits (pasted page at s) (at + length s) t j ∙ ap₂ (λ u v. (u, v)) (pasted_both page at s t k) f ∙ sym (text_fits page at (s ++ t) m)
 
-  pub line_left : r ≡ false → (page, at) ≡ with_text (page, at) (line_of key text)
-  unfolding with_text pick
-  line_left h = rw (size, ← e, h) refl
+module _ {r : Bool} (q : List ℕ × ℕ) (key text : List ℕ) (e : r ≡ leb (q.1 + (length key + length text + 1)) (length q.0)) where
+  pub line_put : {a b o : List ℕ × ℕ} → r ≡ true → a ≡ with_text q key → b ≡ with_text a text → o ≡ with_text b (10 ∷ []) → o ≡ with_text q (line_of key text)
+  line_put h x y z =
+      let k : q.1 + (length key + length text + 1) ≤ length q.0 = leb-true (q.1 + (length key + length text + 1)) (length q.0) (sym e ∙ h) in
+      let l : length (key ++ text) ≡ length key + length text = length-append key text in
+      let i : q.1 + (length key + length text) ≤ length q.0 = omega arith in
+      let j : q.1 + (length (key ++ text) + length {A = ℕ} (10 ∷ [])) ≤ length q.0 = omega arith in
+      z ∙ ap (λ u. with_text u (10 ∷ [])) (y ∙ ap (λ u. with_text u text) x ∙ with_both q key text i)
+      ∙ with_both q (key ++ text) (10 ∷ []) j ∙ ap (with_text q) (append_assoc key text (10 ∷ []))
 
-  room : r ≡ true → at + (length key + (length text + 1)) ≤ length page
-  room h = leb-true (at + (length key + (length text + 1))) (length page) (sym e ∙ h)
-
-  -- (under `Unit` a `search` does not look for p in the last premise, in which it would end at a limit)
-  pub line_put : {p l : List ℕ} {a : ℕ} → r ≡ true → a ≡ at + (length key + length text) → p ≡ pasted page at (key ++ text) → (Unit {0} → l ≡ put_in p a (10 ∷ [])) → (l, a + 1) ≡ with_text (page, at) (line_of key text)
-  unfolding with_text pick
-  line_put {p} {l} {a} h f d x =
-      let k = room h in
-      let s = size in
-      let n = length-append key text in
-      let z : a ≡ at + length (key ++ text) = omega arith in
-      let g : l ≡ pasted page at (line_of key text)
-      = put_next page at (key ++ text) (10 ∷ []) (omega arith) d (x tt ∙ ap (λ m. put_in p m (10 ∷ [])) z) ∙ ap (pasted page at) (append_assoc key text (10 ∷ [])) in
-      let w : a + 1 ≡ at + length (line_of key text) = omega arith in
-      ap₂ (λ u v. (u, v)) g w ∙ rw (s, ← e, h) refl
+  pub line_left : r ≡ false → q ≡ with_text q (line_of key text)
+  line_left h =
+      let l : length key + length text + 1 ≡ length (line_of key text) = rw (length-append, length-append) (omega arith) in
+      text_left q (line_of key text) (e ∙ ap (λ n. leb (q.1 + n) (length q.0)) l) h

@@ -1,75 +1,57 @@
 -- Numbers spelt in digits. Assumes nothing.
-use Prim.Native.Nat.{ℕ, suc, ◌+◌, ◌-◌, ◌/◌, ◌%◌, ◌≤◌, ◌<◌}
-use mathlib.Core.Path.{◌≡◌, refl, sym, ap, ap₂, ◌∙◌}
+use Prim.Native.Nat.{ℕ, zero, suc, ◌+◌, ◌-◌, ◌/◌, ◌%◌, ◌≤◌}
+use mathlib.Core.Path.{◌≡◌, refl, ap, ◌∙◌}
 use mathlib.Core.List.{List, [], ◌∷◌}
+use mathlib.Core.Bool.{Bool, true, false}
 use native.Mathlib.Omega.{arith}
-use native.Mathlib.Numerals.{add-one}
-use borrow.Author.Rules.{rules}
-use borrow.Author.Tests.{eq-eqb, ne_eqb}
-use lib.ListN.{length, get_or, take, drop, length-drop}
-use lib.Seq.{take_all, drop-cons}
+use lib.ListN.{length, take, drop, length-drop}
+use lib.Seq.{take_all}
 use lib.Dec.{eqb}
+use Rattle.std.specs.List.{prefix_len}
 use Rattle.machine.specs.Lists.{pick}
 use Rattle.machine.specs.Digits.{decimal}
-use Rattle.machine.proofs.Digits.{length_decimal}
-use Rattle.format.specs.Answers.{refusal}
+use Rattle.format.specs.declared.Answer.{Answer}
 use Rattle.page.specs.Lines.{line_of, with_text, without_zeros, number_text, with_euros, answer_key, line_key, column_key, with_answer}
 
 -- ## Zeros in front
 
--- what may still be left out after z of them
-pub record Passing (most : ℕ) (l : List ℕ) (z : ℕ) : Type 0 where
-  pub within : z ≤ most
-  pub rest : without_zeros (most - z) (drop z l) ≡ without_zeros most l
+zeros_dropped : (most : ℕ) (l : List ℕ) → drop (prefix_len (λ d. eqb d 48) (take most l)) l ≡ without_zeros most l
+unfolding without_zeros pick
+zeros_dropped zero l = refl
+zeros_dropped (suc k) [] = refl
+zeros_dropped (suc k) (c ∷ l) = by (eqb c 48) refl (zeros_dropped k l)
+  where
+    by : (q : Bool) → eqb c 48 ≡ q → drop (prefix_len (λ d. eqb d 48) (take k l)) l ≡ without_zeros k l → drop (prefix_len (λ d. eqb d 48) (take (suc k) (c ∷ l))) (c ∷ l) ≡ pick q (without_zeros k l) (c ∷ l)
+    by true e p =
+        let n = prefix_len (λ d. eqb d 48) (take k l) in
+        let s : 1 + n ≡ suc n = omega arith in
+        rw e (ap (λ i. drop i (c ∷ l)) s ∙ p)
+    by false e p = rw e refl
 
-pub pass_none : (most : ℕ) (l : List ℕ) → Passing most l 0
-pass_none most l = let q : most - 0 ≡ most = omega arith in record { within = omega arith; rest = ap (λ k. without_zeros k l) q }
-
-module _ {most : ℕ} {l : List ℕ} {z : ℕ} (p : Passing most l z) where
-  module _ (h : z < most) (g : most ≤ length l) where
-    by_next : without_zeros most l ≡ pick (eqb (get_or l z 0) 48) (without_zeros (most - (z + 1)) (drop (z + 1) l)) (drop z l)
-    unfolding without_zeros
-    by_next =
-        let k : most - z ≡ suc (most - (z + 1)) = omega arith in
-        let m : drop z l ≡ get_or l z 0 ∷ drop (z + 1) l = drop-cons l z 0 (omega arith) ∙ ap (λ n. get_or l z 0 ∷ drop n l) (sym (add-one z)) in
-        sym p.rest ∙ ap₂ without_zeros k m ∙ ap (pick (eqb (get_or l z 0) 48) (without_zeros (most - (z + 1)) (drop (z + 1) l))) (sym m)
-
-    pub pass_more : get_or l z 0 ≡ 48 → Passing most l (z + 1)
-    unfolding pick
-    pass_more e = record { within = omega arith; rest = sym (by_next ∙ rw (eq-eqb _ _ e) refl) }
-
-    pub pass_stop : (get_or l z 0 ≡ 48 → ⊥) → drop z l ≡ without_zeros most l
-    unfolding pick
-    pass_stop e = sym (by_next ∙ rw (ne_eqb _ _ e) refl)
-
-  pub pass_all : most ≤ z → drop z l ≡ without_zeros most l
-  unfolding without_zeros
-  pass_all h = let k : most - z ≡ 0 = omega arith in ap (λ n. without_zeros n (drop z l)) (sym k) ∙ p.rest
-
-pub ruleset passes = (pass_none, pass_more, pass_stop, pass_all, rules)
+pub zeros_trimmed : {t : List ℕ} {k m z : ℕ} (d : List ℕ) (least : ℕ) → length d ≡ 20 → k ≡ least - 1 → m ≡ 19 - k → z ≡ prefix_len (λ x. eqb x 48) (take m d) → t ≡ take (20 - z) (drop z d) → t ≡ without_zeros (19 - (least - 1)) d
+zeros_trimmed {m = m} {z = z} d least n e f g h =
+    let i : m ≡ 19 - (least - 1) = omega arith in
+    let j : length (drop z d) ≤ 20 - z = rw length-drop (omega arith) in
+    h ∙ take_all (20 - z) (drop z d) j ∙ ap (λ u. drop u d) g ∙ zeros_dropped m d ∙ ap (λ u. without_zeros u d) i
 
 -- ## On a page
 
-module _ {d t : List ℕ} {k : ℕ} (n least z : ℕ) (e : d ≡ decimal 20 n) (f : k ≡ 19 - (least - 1)) (g : drop z d ≡ without_zeros k d) (h : t ≡ take 20 (drop z d)) where
-  number_text_lem : t ≡ number_text least n
+module _ {d t : List ℕ} (q : List ℕ × ℕ) (n least : ℕ) (e : d ≡ decimal 20 n) (f : t ≡ without_zeros (19 - (least - 1)) d) where
+  spelling : t ≡ number_text least n
   unfolding number_text
-  number_text_lem = let l = ap length e ∙ length_decimal 20 n in h ∙ take_all 20 (drop z d) (rw length-drop (omega arith)) ∙ g ∙ ap₂ without_zeros f e
+  spelling = f ∙ ap (without_zeros (19 - (least - 1))) e
 
-  pub number_line : {o : List ℕ × ℕ} (page : List ℕ × ℕ) (key : List ℕ) → o ≡ with_text page (line_of key t) → o ≡ with_text page (line_of key (number_text least n))
-  number_line page key p = p ∙ ap (λ x. with_text page (line_of key x)) number_text_lem
+  pub number_put : {o : List ℕ × ℕ} → o ≡ with_text q t → o ≡ with_text q (number_text least n)
+  number_put p = p ∙ ap (with_text q) spelling
 
-  pub number_put : {o : List ℕ × ℕ} (page : List ℕ × ℕ) → o ≡ with_text page t → o ≡ with_text page (number_text least n)
-  number_put page p = p ∙ ap (with_text page) number_text_lem
+  pub number_line : {o : List ℕ × ℕ} (key : List ℕ) → o ≡ with_text q (line_of key t) → o ≡ with_text q (line_of key (number_text least n))
+  number_line key p = p ∙ ap (λ x. with_text q (line_of key x)) spelling
 
-pub ruleset spells = (number_line, number_put, rules)
-
-pub answer_lines : {p q : List ℕ} {a b : ℕ} {o : List ℕ × ℕ} (page : List ℕ × ℕ) (number line column : ℕ) → (p, a) ≡ with_text page (line_of answer_key (number_text 1 number))
-    → (q, b) ≡ with_text (p, a) (line_of line_key (number_text 1 line)) → o ≡ with_text (q, b) (line_of column_key (number_text 1 column)) → o ≡ with_answer page (refusal number line column)
-unfolding with_answer
-answer_lines page number line column k l m = m ∙ ap (λ u. with_text u (line_of column_key (number_text 1 column))) (l ∙ ap (λ u. with_text u (line_of line_key (number_text 1 line))) k)
-
-pub ruleset answers = (answer_lines, rules)
-
-pub euros_put : {p q : List ℕ} {a b : ℕ} {o : List ℕ × ℕ} (page : List ℕ × ℕ) (cents : ℕ) → (p, a) ≡ with_text page (number_text 1 (cents / 100)) → (q, b) ≡ with_text (p, a) (46 ∷ []) → o ≡ with_text (q, b) (number_text 2 (cents % 100)) → o ≡ with_euros page cents
+pub euros_put : {a b o : List ℕ × ℕ} (q : List ℕ × ℕ) (cents : ℕ) → a ≡ with_text q (number_text 1 (cents / 100)) → b ≡ with_text a (46 ∷ []) → o ≡ with_text b (number_text 2 (cents % 100)) → o ≡ with_euros q cents
 unfolding with_euros
-euros_put page cents k l m = m ∙ ap (λ u. with_text u (number_text 2 (cents % 100))) (l ∙ ap (λ u. with_text u (46 ∷ [])) k)
+euros_put q cents k l m = m ∙ ap (λ u. with_text u (number_text 2 (cents % 100))) (l ∙ ap (λ u. with_text u (46 ∷ [])) k)
+
+pub answer_put : {a b o : List ℕ × ℕ} (q : List ℕ × ℕ) (x : Answer) → a ≡ with_text q (line_of answer_key (number_text 1 x.number))
+    → b ≡ with_text a (line_of line_key (number_text 1 x.line)) → o ≡ with_text b (line_of column_key (number_text 1 x.column)) → o ≡ with_answer q x
+unfolding with_answer
+answer_put q x k l m = m ∙ ap (λ u. with_text u (line_of column_key (number_text 1 x.column))) (l ∙ ap (λ u. with_text u (line_of line_key (number_text 1 x.line))) k)

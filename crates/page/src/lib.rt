@@ -1,143 +1,136 @@
-// What the programs print: texts and key=value lines, gathered on a lent page. Each function answers how far the page
-// is filled.
+// What the programs print: texts and key=value lines, gathered on a page.
 #![tactic(auto)]
 
-ghost use Rattle.std.specs.Prelude.{◌≡◌, ◌++◌, ◌+◌, ◌-◌, ◌≤◌, length, drop, leb};
-ghost use Rattle.machine.specs.Lists.{pasted};
+ghost use Rattle.std.specs.Prelude.{◌≡◌, ℕ, ◌+◌, ◌-◌, ◌≤◌, ◌==◌, List, length, take, replicate, leb};
+ghost use Rattle.std.specs.List.{prefix_len};
 ghost use Rattle.format.specs.Answers.{refusal};
 ghost use Rattle.page.specs.Lines.{line_of, with_text, without_zeros, number_text, with_euros, with_answer, with_input};
 
 use field::bytes::{part, put};
 use field::numbers::spelt;
 use format::Answer;
+use std::marker::Model;
 
-// A text. One that has no room is left out whole.
-pub fn put_text(page: &mut [u8], at: usize, text: &[u8]) -> usize
-    ensures { (page.new, result) ≡ with_text (page.old, at) text.now }
+// A page of `N` bytes, filled from the front. A text that has no room is left out whole.
+#[derive(Drop)]
+pub struct Page<const N: usize> {
+    pub bytes: [u8; N],
+    pub at: usize,
+}
+
+// Clauses see the bytes, and how far they are filled.
+impl<const N: usize> Model for Page<N> {
+    ghost Value = { List ℕ × ℕ };
+
+    ghost view = { λ p. (p.bytes, p.at) };
+}
+
+// How many zeros stand in front.
+fn zeros(digits: &[u8]) -> usize
+    ensures count { result ≡ prefix_len (λ d. d == 48) digits.now }
+    ensures within { result ≤ length digits.now }
 {
-    if at <= page.len() {
-        if text.len() <= page.len() - at {
-            put(text, at, page);
-            return at + text.len();
+    digits.iter().take_while(|d| **d == b'0').count()
+}
+
+// A number's digits without the zeros in front, but so many digits at least.
+fn trimmed(digits: &[u8; 20], least: usize) -> &[u8]
+    ensures { result.now ≡ without_zeros (19 - (least - 1)) digits.now }
+{
+    let spare = 19usize.saturating_sub(least.saturating_sub(1));
+    let front = zeros(&digits[..spare]);
+    &digits[front..]
+}
+
+impl<const N: usize> Page<N> {
+    pub fn blank() -> Page<N>
+        ensures { result ≡ (replicate N 0, 0) }
+    {
+        Page {
+            bytes: [0; N],
+            at: 0,
         }
     }
-    at
-}
 
-// Whether a line of that key and text has room.
-fn has_room(size: usize, at: usize, key: usize, text: usize) -> bool
-    ensures { result ≡ leb (at + (key + (text + 1))) size }
-{
-    if size < at {
-        return false;
+    pub fn filled(&self) -> &[u8]
+        ensures { result.now ≡ take self.now.1 self.now.0 }
+    {
+        part(&self.bytes, 0, self.at)
     }
-    if size - at < key {
-        return false;
-    }
-    text < size - at - key
-}
 
-fn put_both(page: &mut [u8], at: usize, key: &[u8], text: &[u8]) -> usize
-    requires { at + (length key.now + length text.now) ≤ length page.old }
-    ensures filled { result ≡ at + (length key.now + length text.now) }
-    ensures bytes { page.new ≡ pasted page.old at (key.now ++ text.now) }
-{
-    put(key, at, page);
-    let a = at + key.len();
-    put(text, a, page);
-    a + text.len()
-}
-
-// A key and a text. A line that has no room is left out whole.
-pub fn put_line(page: &mut [u8], at: usize, key: &[u8], text: &[u8]) -> usize
-    ensures { (page.new, result)
-        ≡ with_text (page.old, at) (line_of key.now text.now) }
-{
-    if has_room(page.len(), at, key.len(), text.len()) {
-        let a = put_both(page, at, key, text);
-        put(b"\n", a, page);
-        return a + 1;
+    // Fills it from the front again.
+    pub fn clear(&mut self)
+        ensures { self.new ≡ (self.old.0, 0) }
+    {
+        self.at = 0;
     }
-    at
-}
 
-// How many zeros in front may be left out.
-fn spare(least: usize) -> usize
-    ensures { result ≡ 19 - (least - 1) }
-{
-    if least < 1 {
-        return 19;
+    // Whether that many bytes more have room.
+    pub fn has_room(&self, bytes: usize) -> bool
+        ensures { result ≡ leb (self.now.1 + bytes) (length self.now.0) }
+    {
+        self.at <= N && bytes <= N - self.at
     }
-    if 20 < least {
-        return 0;
-    }
-    20 - least
-}
 
-// How many of them there are.
-fn zeros(digits: &[u8], most: usize) -> usize
-    requires { most ≤ length digits.now }
-    ensures { drop result digits.now ≡ without_zeros most digits.now }
-{
-    let mut z: usize = 0;
-    while z < most {
-        if digits[z] != 48 {
-            return z;
+    pub fn text(&mut self, text: &[u8])
+        ensures { self.new ≡ with_text self.old text.now }
+    {
+        if self.has_room(text.len()) {
+            put(text, self.at, &mut self.bytes);
+            self.at += text.len();
         }
-        z += 1;
     }
-    z
-}
 
-// A number of at least so many digits.
-pub fn put_digits(page: &mut [u8], at: usize, n: u64, least: usize) -> usize
-    ensures { (page.new, result) ≡ with_text (page.old, at) (number_text least n) }
-{
-    let digits = spelt(n);
-    let z = zeros(&digits, spare(least));
-    put_text(page, at, part(&digits, z, 20))
-}
-
-// An amount of cents as euros.
-pub fn put_euros(page: &mut [u8], at: usize, cents: u64) -> usize
-    ensures { (page.new, result) ≡ with_euros (page.old, at) cents }
-{
-    let a = put_digits(page, at, cents / 100, 1);
-    let b = put_text(page, a, b".");
-    put_digits(page, b, cents % 100, 2)
-}
-
-// A key and a number of at least so many digits.
-pub fn put_number(page: &mut [u8], at: usize, key: &[u8], n: u64, least: usize) -> usize
-    ensures { (page.new, result)
-        ≡ with_text (page.old, at) (line_of key.now (number_text least n)) }
-{
-    let digits = spelt(n);
-    let z = zeros(&digits, spare(least));
-    put_line(page, at, key, part(&digits, z, 20))
-}
-
-fn put_parts(page: &mut [u8], at: usize, number: u8, line: u64, column: u8) -> usize
-    ensures { (page.new, result) ≡ with_answer (page.old, at) (refusal number line column) }
-{
-    let a = put_number(page, at, b"answer=", number as u64, 1);
-    let b = put_number(page, a, b"line=", line, 1);
-    put_number(page, b, b"column=", column as u64, 1)
-}
-
-// The three lines of an answer.
-pub fn put_answer(page: &mut [u8], at: usize, answer: Answer) -> usize
-    ensures { (page.new, result) ≡ with_answer (page.old, at) answer }
-{
-    put_parts(page, at, answer.number, answer.line, answer.column)
-}
-
-// The name of an input at the start of a page, where there are several.
-pub fn put_input(page: &mut [u8], name: &[u8], several: bool) -> usize
-    ensures { (page.new, result) ≡ with_input page.old name.now several }
-{
-    if several {
-        return put_line(page, 0, b"input=", name);
+    // A key and a text. A line that has no room is left out whole.
+    pub fn line(&mut self, key: &[u8], text: &[u8])
+        ensures { self.new ≡ with_text self.old (line_of key.now text.now) }
+    {
+        if self.has_room(key.len() + text.len() + 1) {
+            self.text(key);
+            self.text(text);
+            self.text(b"\n");
+        }
     }
-    0
+
+    // A number of at least so many digits.
+    pub fn digits(&mut self, n: u64, least: usize)
+        ensures { self.new ≡ with_text self.old (number_text least n) }
+    {
+        self.text(trimmed(&spelt(n), least));
+    }
+
+    // An amount of cents as euros.
+    pub fn euros(&mut self, cents: u64)
+        ensures { self.new ≡ with_euros self.old cents }
+    {
+        self.digits(cents / 100, 1);
+        self.text(b".");
+        self.digits(cents % 100, 2);
+    }
+
+    // A key and a number of at least so many digits.
+    pub fn number(&mut self, key: &[u8], n: u64, least: usize)
+        ensures { self.new ≡ with_text self.old (line_of key.now (number_text least n)) }
+    {
+        self.line(key, trimmed(&spelt(n), least));
+    }
+
+    // The three lines of an answer.
+    pub fn answer(&mut self, answer: Answer)
+        ensures { self.new ≡ with_answer self.old answer }
+    {
+        self.number(b"answer=", answer.number as u64, 1);
+        self.number(b"line=", answer.line, 1);
+        self.number(b"column=", answer.column as u64, 1);
+    }
+
+    // The name of an input at the start of the page, where there are several.
+    pub fn input(&mut self, name: &[u8], several: bool)
+        ensures { self.new ≡ with_input self.old.0 name.now several }
+    {
+        self.clear();
+        if several {
+            self.line(b"input=", name);
+        }
+    }
 }

@@ -1,3 +1,5 @@
 pub mod Taking
 pub mod Carrying
 pub mod Telling
+pub mod Turning
+pub mod Ending

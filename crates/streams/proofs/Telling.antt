@@ -1,23 +1,19 @@
 -- What was written, read or told, from what calls answered. Assumes nothing.
 use mathlib.Core.Path.{◌≡◌, refl, sym, ap, ◌∙◌}
-use mathlib.Core.Bool.{true, false}
-use Rattle.std.specs.Prelude.{ℕ, Result, Ok, Err, is_ok}
-use Rattle.std.specs.IoError.{error_kind}
+use mathlib.Core.Bool.{Bool}
+use Rattle.std.specs.Prelude.{Result, Ok, Err, is_ok, ℕ, List, length, take}
+use Rattle.std.proofs.Common.{length-take-le, subst}
+use Rattle.std.specs.Io.{WritesAtMost}
 use Rattle.std.specs.declared.env.FillError.{FillError}
-use Rattle.std.specs.declared.env.FillError.TheVariants.{NotPresent}
+use Rattle.std.specs.IoError.{error_kind}
 use Rattle.std.specs.declared.io.Error.{Error}
 use Rattle.std.specs.declared.io.ErrorKind.{ErrorKind}
 use Rattle.std.specs.declared.io.ErrorKind.TheVariants.{BrokenPipe}
-use Rattle.streams.specs.Opened.{is_given}
 use Rattle.streams.specs.Status.{failed_by, printed_of}
 use Rattle.streams.specs.declared.output.Printed.TheVariants.{Whole, Failed, Unread}
 
-module _ {A E : Type 0} {w : Result A E} where
-  pub written_ok : {x : A} → w ≡ Ok x → true ≡ is_ok w
-  written_ok e = sym (ap is_ok e)
-
-  pub written_err : {x : E} → w ≡ Err x → false ≡ is_ok w
-  written_err e = sym (ap is_ok e)
+pub written_so : {A E : Type 0} {w v : Result A E} {b : Bool} → b ≡ is_ok v → w ≡ v → b ≡ is_ok w
+written_so h e = h ∙ ap is_ok (sym e)
 
 failed_so : (k : ErrorKind) → (k ≡ BrokenPipe → ⊥) → Failed ≡ failed_by k
 failed_so BrokenPipe n = absurd (n refl)
@@ -34,5 +30,5 @@ module _ {A : Type 0} {w : Result A Error} where
     pub printed_failed : (k ≡ BrokenPipe → ⊥) → Failed ≡ printed_of w
     printed_failed n = failed_so k n ∙ ap failed_by f ∙ sym (ap printed_of e)
 
-pub given_not : {r : Result ℕ FillError} {x : FillError} → r ≡ Err x → x ≡ NotPresent → false ≡ is_given r
-given_not e h = sym (ap is_given e ∙ ap (λ y. is_given (Err y)) h)
+pub prefix_length : {w : Result ℕ FillError} (n : ℕ) (xs : List ℕ) → WritesAtMost w xs → w ≡ Ok n → n ≡ length (take n xs)
+prefix_length n xs h e = sym (length-take-le n xs (subst (λ v. WritesAtMost v xs) e h))

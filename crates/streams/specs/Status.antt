@@ -1,5 +1,5 @@
 -- How a program ends: 0, everything accepted and written; 1, something refused; 2, something not opened, read or written.
-use Rattle.std.specs.Prelude.{ℕ, ◌+◌, min, Bool, true, false, eqb, Result, Ok, Err}
+use Rattle.std.specs.Prelude.{ℕ, ◌≡◌, ◌⊎◌, ◌+◌, min, Bool, true, false, eqb, Result, Ok, Err}
 use Rattle.std.specs.IoError.{error_kind}
 use Rattle.std.specs.declared.io.Error.{Error}
 use Rattle.std.specs.declared.io.ErrorKind.{ErrorKind}
@@ -36,6 +36,10 @@ unfoldable pub status_after : ℕ → Bool → Printed → ℕ
 status_after number done Whole = status_of number done
 status_after number done Failed = status_of number false
 status_after number done Unread = 141
+
+-- of several files: one of theirs, or that of a file that was not opened
+abbrev pub EndsAs : (ℕ → Type 0) → ℕ → Type 0
+EndsAs ends status = ends status ⊎ (status ≡ 2)
 
 -- what a program ends with
 unfoldable pub exit_of : ℕ → ℕ

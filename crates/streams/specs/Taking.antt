@@ -1,9 +1,10 @@
 -- What was taken of a buffer, and what is left of it.
 use Rattle.std.specs.Prelude.{ℕ, ◌+◌, ◌≡◌, List, ◌++◌, Bool, true, false, ◌||◌, length, take, drop, leb, ltb}
+use Rattle.std.specs.List.{FoldsTo}
 use Rattle.machine.specs.Lists.{pick}
 use Rattle.format.specs.Cutting.{cut_of, next_line}
 use Rattle.streams.specs.declared.lines.Lines.{Lines}
-use Rattle.streams.specs.declared.reader.Reader.{Reader}
+use Rattle.streams.specs.declared.input.Input.{Input}
 use Rattle.streams.specs.declared.twice.Source.{Source}
 
 abbrev pub unread_if : Bool → Lines
@@ -44,8 +45,15 @@ pub record Pulled (l : Lines) (b : List ℕ) (r : Lines) (b' : List ℕ) : Type 
   pub carried : take (length (left_in l b)) (left_in r b') ≡ left_in l b
 
 -- a temporary file, read from its start; an input, read from an offset on
-abbrev pub from_start : Reader → Source
-from_start reader = record { reader = reader; start = 0; temporary = true }
+abbrev pub from_start : Input → Source
+from_start input = record { input = input; start = 0; temporary = true }
 
-abbrev pub from_offset : Reader → ℕ → Source
-from_offset reader start = record { reader = reader; start = start; temporary = false }
+abbrev pub from_offset : Input → ℕ → Source
+from_offset input start = record { input = input; start = start; temporary = false }
+
+-- lines were taken one after the other, the last of them this one
+pub record Took {A : Type 0} (takes : A → List ℕ → A → Type 0) (first : A) (line : List ℕ) (last : A) : Type 0 where
+  pub lines : List (List ℕ)
+  pub before : A
+  pub through : FoldsTo takes first lines before
+  pub at : takes before line last

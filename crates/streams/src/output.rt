@@ -18,11 +18,7 @@ impl Printed {
     pub fn is_whole(self) -> bool
         ensures { result ≡ is_whole self }
     {
-        match self {
-            Printed::Whole => true,
-            Printed::Failed => false,
-            Printed::Unread => false,
-        }
+        matches!(self, Printed::Whole)
     }
 }
 
@@ -30,13 +26,9 @@ impl Printed {
 pub fn told(rt: &HostRuntime, written: io::Result<()>) -> bool
     ensures { result ≡ is_ok written }
 {
-    match written {
-        Ok(()) => true,
-        Err(e) => {
-            fail(rt, b"standard output", &e);
-            false
-        }
-    }
+    written
+        .inspect_err(|e| fail(rt, b"standard output", e))
+        .is_ok()
 }
 
 // What became of it; that nobody reads it any more is not told.

@@ -1,8 +1,8 @@
 // Standard input opened once more, as a file of its own that can go back: the descriptor itself only goes on here.
-ghost use Rattle.std.specs.Prelude.{◌≡◌, true};
-ghost use Rattle.streams.specs.Opened.{is_open, is_standard};
+ghost use Rattle.std.specs.Prelude.{◌≡◌, true, IsSome};
+ghost use Rattle.streams.specs.Opened.{is_standard};
 
-use crate::Reader;
+use crate::{Input, Reader};
 use std::fs::File;
 use std::io::{Error, ErrorKind, Seek, SeekFrom};
 use std::{fs, io};
@@ -20,10 +20,7 @@ fn offset_in(state: &str) -> Option<u64> {
 
 fn offset(rt: &HostRuntime) -> io::Result<u64> {
     let state = fs::read_to_string(rt, ITS_STATE)?;
-    match offset_in(state.as_str()) {
-        Some(at) => Ok(at),
-        None => Err(Error::from(ErrorKind::InvalidData)),
-    }
+    offset_in(state.as_str()).ok_or_else(|| Error::from(ErrorKind::InvalidData))
 }
 
 // A named pipe is no file here: opened anew it would wait for somebody who writes.
@@ -39,15 +36,15 @@ fn opened_anew(rt: &HostRuntime) -> io::Result<File> {
 
 // Standard input that is a file once more, at the offset where it stands, for its second reading; nothing of any other
 // input. What is read from it does not move the offset that standard input shares with whoever started the program.
-pub fn anew(rt: &HostRuntime, reader: &Reader) -> Reader
-    ensures { is_open result ≡ true → is_standard reader.now ≡ true }
+pub fn anew<'a>(rt: &HostRuntime, input: &Input<'a>) -> Option<Input<'a>>
+    ensures { IsSome result → is_standard input.now ≡ true }
 {
-    match reader {
-        Reader::StandardInput(_) => match opened_anew(rt) {
-            Ok(file) => Reader::OpenFile(file),
-            Err(_) => Reader::Closed,
-        },
-        Reader::OpenFile(_) => Reader::Closed,
-        Reader::Closed => Reader::Closed,
+    match input.reader {
+        Some(Reader::StandardInput(_)) => opened_anew(rt).ok().map(|file| Input {
+            reader: Some(Reader::OpenFile(file)),
+            name: input.name,
+        }),
+        Some(Reader::OpenFile(_)) => None,
+        None => None,
     }
 }

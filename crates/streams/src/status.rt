@@ -9,18 +9,19 @@ use std::process::ExitCode;
 // Of a file whose output nobody reads any more: what a program ends with that the signal of a closed pipe kills.
 pub const UNREAD: u8 = 141;
 
+// Of a file after which no other is begun, as after half a one: it would look like the rest of that.
+pub const NO_MORE: u8 = 3;
+
 // Of one file: the number of its answer, and whether all was read and written.
 #[tactic(auto, unfolding(crate::specs::Status::status_of, machine::specs::Lists::pick))]
 pub fn status_of(number: u8, done: bool) -> u8
     ensures { result ≡ status_of number done }
 {
-    if done {
-        if number == 0 {
-            return 0;
-        }
-        return 1;
+    match (done, number) {
+        (true, 0) => 0,
+        (true, _) => 1,
+        (false, _) => 2,
     }
-    2
 }
 
 // The same with what became of what was printed of it.
@@ -39,29 +40,15 @@ pub fn status_after(number: u8, done: bool, printed: Printed) -> u8
 pub fn worse(a: u8, b: u8) -> u8
     ensures { result ≡ max a b }
 {
-    if a < b {
-        return b;
-    }
-    a
-}
-
-// The status that the digit names.
-#[tactic(auto, unfolding(crate::specs::Status::status_digit))]
-fn digit_of(status: u8) -> u8
-    ensures { 48 + result ≡ status_digit status }
-{
-    if status < 2 {
-        return status;
-    }
-    2
+    a.max(b)
 }
 
 // What `main` returns: the status, as its digit names it.
+#[tactic(auto, unfolding(crate::specs::Status::status_digit))]
 pub fn end_with(status: u8) -> ExitCode
     ensures { 48 + exit_status result ≡ status_digit status }
 {
-    let digit = digit_of(status);
-    ExitCode::from(digit)
+    ExitCode::from(status.min(2))
 }
 
 // The same, but 141 where nobody reads the output any more.

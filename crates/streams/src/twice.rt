@@ -4,18 +4,20 @@ ghost use Rattle.std.specs.Prelude.{◌≡◌};
 ghost use Rattle.machine.specs.Lists.{pick};
 ghost use Rattle.streams.specs.Taking.{unread_if, from_start, from_offset};
 
-use crate::failures::{fail, tell};
-use crate::{Lines, Reader, fill};
+use crate::failures::{Told, or_told};
+use crate::{Input, Lines, Reader};
 use field::bytes::part;
 use std::fs::{File, OpenOptions};
 use std::io::{Error, ErrorKind, Write};
 use std::os::unix::fs::OpenOptionsExt;
-use std::{fs, io, process, str};
+use std::{fs, io, process};
 
-// Its reader, the offset at which both readings begin, and whether it is a temporary file's.
+const TEMPORARY: &[u8] = b"temporary file";
+
+// What it is read from, the offset at which both readings begin, and whether it is a temporary file's.
 #[derive(Drop)]
-pub struct Source {
-    pub reader: Reader,
+pub struct Source<'a> {
+    pub input: Input<'a>,
     pub start: u64,
     pub temporary: bool,
 }
@@ -50,100 +52,70 @@ fn temporary(rt: &HostRuntime) -> io::Result<File> {
     Err(Error::from(ErrorKind::AlreadyExists))
 }
 
-fn is_kept(rt: &HostRuntime, to: &File, bytes: &[u8]) -> bool {
-    let mut file = to;
-    match file.write_all(bytes) {
-        Ok(()) => true,
-        Err(e) => {
-            fail(rt, b"temporary file", &e);
-            false
-        }
-    }
-}
-
-// All that an input has left, to the temporary file; whether that was done.
-fn spool(rt: &HostRuntime, reader: &Reader, name: &[u8], to: &File) -> bool {
+// All that an input has left, put into the temporary file.
+fn spool(rt: &HostRuntime, input: &Input, to: &File) -> Result<(), Told> {
     let mut buffer = [0u8; crate::BUFFER];
+    let mut file = to;
     for _ in 0..u64::MAX {
-        let filled = fill(rt, reader, name, &mut buffer);
-        if filled.failed {
-            return false;
-        }
-        let kept = is_kept(rt, to, part(&buffer, 0, filled.count));
-        if !kept {
-            return false;
-        }
-        if filled.count < crate::BUFFER {
-            return true;
+        let count = input.fill(rt, &mut buffer).map_err(|_| Told)?;
+        or_told(rt, TEMPORARY, file.write_all(part(&buffer, 0, count)))?;
+        if count < crate::BUFFER {
+            return Ok(());
         }
     }
-    false
+    Err(Told)
 }
 
-// The temporary file from its start, where all of the input was put into it.
-fn kept_in(rt: &HostRuntime, reader: &Reader, name: &[u8], to: File) -> Reader {
-    if !spool(rt, reader, name, &to) {
-        return Reader::Closed;
-    }
-    let kept = Reader::OpenFile(to);
-    match kept.go_to(0) {
-        Ok(_) => kept,
-        Err(e) => {
-            fail(rt, b"temporary file", &e);
-            Reader::Closed
-        }
-    }
+// A temporary file of all that an input has left, from its start.
+fn kept(rt: &HostRuntime, input: &Input) -> Result<Reader, Told> {
+    let to = or_told(rt, TEMPORARY, temporary(rt))?;
+    spool(rt, input, &to)?;
+    let reader = Reader::OpenFile(to);
+    or_told(rt, TEMPORARY, reader.go_to(0))?;
+    Ok(reader)
 }
 
 // An input that cannot go back, in a temporary file; where it is no such input but cannot be read at all, that is told.
-fn spooled(rt: &HostRuntime, reader: &Reader, name: &[u8], error: Error) -> Reader {
-    if error.kind() != ErrorKind::NotSeekable {
-        tell(rt, name, &error);
-        return Reader::Closed;
-    }
-    match temporary(rt) {
-        Ok(to) => kept_in(rt, reader, name, to),
-        Err(e) => {
-            fail(rt, b"temporary file", &e);
-            Reader::Closed
-        }
+fn spooled<'a>(rt: &HostRuntime, input: Input<'a>, error: Error) -> Input<'a> {
+    let reader = if error.kind() == ErrorKind::NotSeekable {
+        kept(rt, &input).ok()
+    } else {
+        input.tell(rt, &error);
+        None
+    };
+    Input {
+        reader,
+        name: input.name,
     }
 }
 
 // An input that can be read twice: itself, or a temporary file of the same bytes.
-pub fn rereadable(rt: &HostRuntime, reader: Reader, name: &[u8]) -> Source
-    ensures { result ≡ pick result.temporary (from_start result.reader) (from_offset reader result.start) }
+pub fn rereadable<'a>(rt: &HostRuntime, input: Input<'a>) -> Source<'a>
+    ensures { result ≡ pick result.temporary (from_start result.input) (from_offset input.entry result.start) }
 {
-    match reader.position() {
+    match input.position() {
         Ok(start) => Source {
-            reader,
+            input,
             start,
             temporary: false,
         },
         Err(e) => Source {
-            reader: spooled(rt, &reader, name, e),
+            input: spooled(rt, input, e),
             start: 0,
             temporary: true,
         },
     }
 }
 
-// Whether it could not go back to where its reading begins, which is told.
-fn stays(rt: &HostRuntime, source: &Source, name: &[u8]) -> bool {
-    match source.reader.go_to(source.start) {
-        Ok(_) => false,
-        Err(e) => {
-            tell(rt, name, &e);
-            true
-        }
-    }
-}
-
-// The lines of it once more.
-pub fn again(rt: &HostRuntime, source: &Source, name: &[u8]) -> Lines
+// The lines of it once more. That it cannot go back to where its reading begins is told.
+pub fn again(rt: &HostRuntime, source: &Source) -> Lines
     ensures { result ≡ unread_if result.failed }
 {
-    let failed = stays(rt, source, name);
+    let failed = source
+        .input
+        .go_to(source.start)
+        .inspect_err(|e| source.input.tell(rt, e))
+        .is_err();
     Lines {
         at: 0,
         end: 0,

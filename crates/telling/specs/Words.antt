@@ -1,5 +1,6 @@
 -- What to tell the sender, by the answer.
 use Rattle.std.specs.Prelude.{ℕ, List, [], ◌∷◌, eqb}
+use Rattle.std.specs.Borrow.{Bor}
 use Prim.Native.String.{String}
 use Rattle.machine.specs.Lists.{pick}
 use Rattle.format.specs.Answers.{accepted, broken_line, unknown_record, misplaced_record, wrong_form, wrong_value, wrong_account, differs, above_maximum, wrong_trailer, ends_early, after_trailer, no_room, no_such_item, ordinary_account, beyond_limits}
@@ -33,3 +34,8 @@ words_by (row ∷ rows) number = pick (eqb number row.0) (characters row.1) (wor
 -- THE WORDS of an answer
 unfoldable pub words_of : ℕ → List ℕ
 words_of number = words_by words number
+
+-- what a table of the code has for a number, and nothing where it does not have it
+abbrev pub looked_up : List (ℕ × Bor (List ℕ)) → ℕ → List ℕ
+looked_up [] number = []
+looked_up (row ∷ rows) number = pick (eqb number row.0) row.1.now (looked_up rows number)

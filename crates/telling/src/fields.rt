@@ -1,158 +1,101 @@
-// The names of fields by record and column.
-ghost use Rattle.std.specs.Prelude.{◌≡◌, [], eqb};
-ghost use Rattle.machine.specs.Lists.{pick};
-ghost use Rattle.format.specs.declared.Kind.TheVariants.{FileHeader, BatchHeaderB, OrderingParty, Transaction};
-ghost use Rattle.format.specs.declared.Kind.TheVariants.{BatchTrailer};
+// The names of fields by record and column (01, 'Record table').
+ghost use Rattle.std.specs.Prelude.{◌≡◌};
 ghost use Rattle.page.specs.Lines.{with_text};
-ghost use Rattle.machine.specs.Texts.{characters};
 ghost use Rattle.telling.specs.Names.{name_in, name_after, field_name};
 
+use crate::looked_up;
 use format::Kind;
-use page::put_text;
+use page::Page;
 
-// A field that is a record's last.
-fn put_one(page: &mut [u8], at: usize, column: u8, first: u8, name: &[u8]) -> usize
-    ensures { (page.new, result)
-        ≡ with_text (page.old, at) (pick (eqb column first) name.now []) }
-{
-    if column == first {
-        return put_text(page, at, name);
-    }
-    put_text(page, at, b"")
-}
+const FILE_HEADER: [(u8, &str); 6] = [
+    (6, "creation date"),
+    (12, "file name"),
+    (20, "sender"),
+    (25, "identification"),
+    (29, "duplicate code"),
+    (30, "filler"),
+];
 
-// A field and the filler after it, which are the last of most records.
-fn put_with_filler(
-    page: &mut [u8],
-    at: usize,
-    column: u8,
-    first: u8,
-    name: &[u8],
-    filler: u8,
-) -> usize
-    ensures { (page.new, result) ≡ with_text (page.old, at)
-        (pick (eqb column first) name.now (pick (eqb column filler) (characters "filler") [])) }
-{
-    if column == first {
-        return put_text(page, at, name);
-    }
-    put_one(page, at, column, filler, b"filler")
-}
+const BATCH_HEADER: [(u8, &str); 6] = [
+    (6, "group"),
+    (8, "ordering account"),
+    (18, "sequence"),
+    (22, "currency"),
+    (25, "batch identification"),
+    (41, "filler"),
+];
 
-fn put_in_file_header(page: &mut [u8], at: usize, column: u8) -> usize
-    ensures { (page.new, result) ≡ with_text (page.old, at) (name_in FileHeader column) }
-{
-    if column == 6 {
-        return put_text(page, at, b"creation date");
-    }
-    if column == 12 {
-        return put_text(page, at, b"file name");
-    }
-    if column == 20 {
-        return put_text(page, at, b"sender");
-    }
-    if column == 25 {
-        return put_text(page, at, b"identification");
-    }
-    put_with_filler(page, at, column, 29, b"duplicate code", 30)
-}
+const ORDERING_PARTY: [(u8, &str); 5] = [
+    (6, "name code"),
+    (7, "desired date"),
+    (13, "name"),
+    (48, "test code"),
+    (49, "filler"),
+];
 
-fn put_in_batch_header(page: &mut [u8], at: usize, column: u8) -> usize
-    ensures { (page.new, result) ≡ with_text (page.old, at) (name_in BatchHeaderB column) }
-{
-    if column == 6 {
-        return put_text(page, at, b"group");
-    }
-    if column == 8 {
-        return put_text(page, at, b"ordering account");
-    }
-    if column == 18 {
-        return put_text(page, at, b"sequence");
-    }
-    if column == 22 {
-        return put_text(page, at, b"currency");
-    }
-    put_with_filler(page, at, column, 25, b"batch identification", 41)
-}
+const TRANSACTION: [(u8, &str); 5] = [
+    (6, "type"),
+    (10, "amount"),
+    (22, "payer"),
+    (32, "beneficiary"),
+    (42, "filler"),
+];
 
-fn put_in_ordering_party(page: &mut [u8], at: usize, column: u8) -> usize
-    ensures { (page.new, result) ≡ with_text (page.old, at) (name_in OrderingParty column) }
-{
-    if column == 6 {
-        return put_text(page, at, b"name code");
-    }
-    if column == 7 {
-        return put_text(page, at, b"desired date");
-    }
-    if column == 13 {
-        return put_text(page, at, b"name");
-    }
-    put_with_filler(page, at, column, 48, b"test code", 49)
-}
+const DESCRIPTION: [(u8, &str); 2] = [(6, "text"), (38, "filler")];
 
-fn put_in_transaction(page: &mut [u8], at: usize, column: u8) -> usize
-    ensures { (page.new, result) ≡ with_text (page.old, at) (name_in Transaction column) }
-{
-    if column == 6 {
-        return put_text(page, at, b"type");
-    }
-    if column == 10 {
-        return put_text(page, at, b"amount");
-    }
-    if column == 22 {
-        return put_text(page, at, b"payer");
-    }
-    put_with_filler(page, at, column, 32, b"beneficiary", 42)
-}
+const REFERENCE: [(u8, &str); 2] = [(6, "text"), (22, "filler")];
 
-fn put_in_batch_trailer(page: &mut [u8], at: usize, column: u8) -> usize
-    ensures { (page.new, result) ≡ with_text (page.old, at) (name_in BatchTrailer column) }
-{
-    if column == 6 {
-        return put_text(page, at, b"total amount");
-    }
-    if column == 24 {
-        return put_text(page, at, b"total accounts");
-    }
-    put_with_filler(page, at, column, 34, b"items", 41)
-}
+const NAME: [(u8, &str); 2] = [(6, "name"), (41, "filler")];
 
-fn put_in(page: &mut [u8], at: usize, kind: Kind, column: u8) -> usize
-    ensures { (page.new, result) ≡ with_text (page.old, at) (name_in kind column) }
+const CITY: [(u8, &str); 1] = [(6, "city")];
+
+const BATCH_TRAILER: [(u8, &str); 4] = [
+    (6, "total amount"),
+    (24, "total accounts"),
+    (34, "items"),
+    (41, "filler"),
+];
+
+const FILE_TRAILER: [(u8, &str); 1] = [(6, "filler")];
+
+fn name_in(kind: Kind, column: u8) -> &'static str
+    ensures { result.now ≡ name_in kind column }
 {
     match kind {
-        Kind::FileHeader => put_in_file_header(page, at, column),
-        Kind::BatchHeaderB => put_in_batch_header(page, at, column),
-        Kind::BatchHeaderC => put_in_batch_header(page, at, column),
-        Kind::FixedDescription => put_with_filler(page, at, column, 6, b"text", 38),
-        Kind::OrderingParty => put_in_ordering_party(page, at, column),
-        Kind::Transaction => put_in_transaction(page, at, column),
-        Kind::NamePayer => put_with_filler(page, at, column, 6, b"name", 41),
-        Kind::CityPayer => put_one(page, at, column, 6, b"city"),
-        Kind::PaymentReference => put_with_filler(page, at, column, 6, b"text", 22),
-        Kind::Description => put_with_filler(page, at, column, 6, b"text", 38),
-        Kind::NameBeneficiary => put_with_filler(page, at, column, 6, b"name", 41),
-        Kind::CityBeneficiary => put_one(page, at, column, 6, b"city"),
-        Kind::BatchTrailer => put_in_batch_trailer(page, at, column),
-        Kind::FileTrailer => put_one(page, at, column, 6, b"filler"),
+        Kind::FileHeader => looked_up(&FILE_HEADER, column),
+        Kind::BatchHeaderB | Kind::BatchHeaderC => looked_up(&BATCH_HEADER, column),
+        Kind::OrderingParty => looked_up(&ORDERING_PARTY, column),
+        Kind::Transaction => looked_up(&TRANSACTION, column),
+        Kind::FixedDescription | Kind::Description => looked_up(&DESCRIPTION, column),
+        Kind::PaymentReference => looked_up(&REFERENCE, column),
+        Kind::NamePayer | Kind::NameBeneficiary => looked_up(&NAME, column),
+        Kind::CityPayer | Kind::CityBeneficiary => looked_up(&CITY, column),
+        Kind::BatchTrailer => looked_up(&BATCH_TRAILER, column),
+        Kind::FileTrailer => looked_up(&FILE_TRAILER, column),
     }
 }
 
-fn put_after(page: &mut [u8], at: usize, code: Option<Kind>, column: u8) -> usize
-    ensures { (page.new, result) ≡ with_text (page.old, at) (name_after code column) }
+fn name_after(code: Option<Kind>, column: u8) -> &'static str
+    ensures { result.now ≡ name_after code column }
 {
     match code {
-        Some(kind) => put_in(page, at, kind, column),
-        None => put_text(page, at, b""),
+        Some(kind) => name_in(kind, column),
+        None => "",
     }
+}
+
+fn field_name(code: Option<Kind>, column: u8) -> &'static str
+    ensures { result.now ≡ field_name code column }
+{
+    if column == 1 {
+        return "code and variant";
+    }
+    name_after(code, column)
 }
 
 // The name of the field of that record that begins at a column onto a page, and nothing where none begins.
-pub fn put_field(page: &mut [u8], at: usize, code: Option<Kind>, column: u8) -> usize
-    ensures { (page.new, result) ≡ with_text (page.old, at) (field_name code column) }
+pub fn put_field<const N: usize>(page: &mut Page<N>, code: Option<Kind>, column: u8)
+    ensures { page.new ≡ with_text page.old (field_name code column) }
 {
-    if column == 1 {
-        return put_text(page, at, b"code and variant");
-    }
-    put_after(page, at, code, column)
+    page.text(field_name(code, column).as_bytes());
 }

@@ -3,14 +3,20 @@ ghost use Rattle.std.specs.Prelude.{◌≡◌};
 ghost use Rattle.page.specs.Lines.{with_text};
 ghost use Rattle.telling.specs.Names.{input_name};
 
-use page::put_text;
+use page::Page;
+
+fn input_name(name: &[u8]) -> &[u8]
+    ensures { result.now ≡ input_name name.now }
+{
+    if name.is_empty() {
+        return b"standard input";
+    }
+    name
+}
 
 // The name of an input onto a page; standard input has an empty one.
-pub fn put_name(page: &mut [u8], at: usize, name: &[u8]) -> usize
-    ensures { (page.new, result) ≡ with_text (page.old, at) (input_name name.now) }
+pub fn put_name<const N: usize>(page: &mut Page<N>, name: &[u8])
+    ensures { page.new ≡ with_text page.old (input_name name.now) }
 {
-    if name.len() == 0 {
-        return put_text(page, at, b"standard input");
-    }
-    put_text(page, at, name)
+    page.text(input_name(name));
 }

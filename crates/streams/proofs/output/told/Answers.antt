@@ -1,9 +1,6 @@
--- What told answers, by the laws of Telling.
-use Rattle.streams.proofs.Telling.{written_ok, written_err}
+-- What told answers, by the law of Telling.
+use Rattle.streams.proofs.Telling.{written_so}
 use Rattle.streams.proofs.output.told.Goals as goal
 
-pub returns-in-Ok : goal.returns-in-Ok
-returns-in-Ok c = search written_ok
-
-pub returns-in-Err : goal.returns-in-Err
-returns-in-Err c = search written_err
+pub returns : goal.returns
+returns c = search written_so

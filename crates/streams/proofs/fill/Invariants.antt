@@ -1,9 +1,0 @@
--- What was read is within the buffer.
-use Rattle.std.proofs.Common.{◌-◌, ◌≤◌, length}
-use Rattle.streams.proofs.fill.Given as goal
-
-abbrev pub invariant-loop-done : goal.invariant-loop-done
-invariant-loop-done l = l.done ≤ length l.buffer
-
-abbrev pub decreases-loop-done : goal.decreases-loop-done
-decreases-loop-done l = length l.buffer - l.done
