@@ -1,67 +1,28 @@
--- A test at every byte of a slice, the same bytes, and a part. Assumes nothing.
+-- The same bytes, and a part of a slice. Assumes nothing.
 use Prim.Native.Nat.{ℕ, ◌+◌, ◌-◌, ◌<◌, ◌≤◌}
-use mathlib.Core.Path.{◌≡◌, refl, sym, ap, ◌∙◌}
+use mathlib.Core.Path.{◌≡◌, refl, sym, ◌∙◌}
 use mathlib.Core.List.{List, [], ◌∷◌}
-use mathlib.Core.Bool.{Bool, true, false, not, ◌&&◌, and-true, and_assoc}
+use mathlib.Core.Bool.{Bool, false, not, ◌&&◌, and-true, and_assoc}
 use native.Mathlib.Omega.{arith}
 use native.Mathlib.Nat.{add-sub_cancel_left}
-use native.Mathlib.Numerals.{add-one}
-use borrow.Author.Rules.{rules}
 use lib.ListN.{length, get_or, take, drop, drop_of_length-le, length-drop}
-use lib.Seq.{drop-cons, take_all}
+use lib.Seq.{take_all}
 use lib.Dec.{eqb}
-use Rattle.machine.specs.Lists.{all, same}
-use Rattle.machine.proofs.Base.{drop_rest, unlike}
+use Rattle.std.specs.List.{fold, zip}
+use Rattle.machine.specs.Lists.{same}
+use Rattle.machine.proofs.Base.{drop_rest}
 use Rattle.format.specs.Cutting.{cut_of, next_line}
 use Rattle.format.specs.Fields.{left_justified}
 use Rattle.format.specs.declared.Cut.{Cut}
 
--- ## A test at every byte
-
--- what is left from place i decides with ok as the whole does
-pub record Passed (p : ℕ → Bool) (s : List ℕ) (ok : Bool) (i : ℕ) : Type 0 where
-  pub within : i ≤ length s
-  pub rest : (ok && all p (drop i s)) ≡ all p s
-
-pub passed_none : (p : ℕ → Bool) (s : List ℕ) → Passed p s true 0
-passed_none p s = record { within = omega arith; rest = refl }
-
-module _ {p : ℕ → Bool} {s : List ℕ} {ok : Bool} {i : ℕ} (r : Passed p s ok i) where
-  pub passed_all : length s ≤ i → ok ≡ all p s
-  passed_all l = sym (and-true ok) ∙ ap (λ (t : List ℕ). ok && all p t) (sym (drop_of_length-le s l)) ∙ r.rest
-
-  pub passed_more : {b : Bool} → i < length s → b ≡ p (get_or s i 0) → Passed p s (ok && b) (i + 1)
-  passed_more {b} h e =
-      record {
-        within = omega arith;
-        rest = rw (add-one, and_assoc, e) (ap (λ (t : List ℕ). ok && all p t) (sym (drop-cons s i 0 h)) ∙ r.rest);
-      }
-
-pub ruleset passes = (passed_none, passed_all, passed_more, rules)
-
 -- ## The same bytes
 
-pub record Alike (a b : List ℕ) (ok : Bool) (i : ℕ) : Type 0 where
-  pub within : i ≤ length a
-  pub rest : (ok && same (drop i a) (drop i b)) ≡ same a b
-
-pub alike_none : (a b : List ℕ) → Alike a b true 0
-alike_none a b = record { within = omega arith; rest = refl }
-
-module _ {a b : List ℕ} {ok : Bool} {i : ℕ} (r : Alike a b ok i) (n : length a ≡ length b) where
-  pub alike_all : length a ≤ i → ok ≡ same a b
-  unfolding same
-  alike_all l =
-      let m : length b ≤ i = omega arith in
-      sym (and-true ok) ∙ sym (rw (drop_of_length-le a l, drop_of_length-le b m)) ∙ r.rest
-
-  pub alike_more : i < length a → Alike a b (ok && eqb (get_or a i 0) (get_or b i 0)) (i + 1)
-  unfolding same
-  alike_more h =
-      let m : i < length b = omega arith in
-      record { within = omega arith; rest = rw (add-one, and_assoc) (sym (rw (← r.rest, drop-cons a i 0, drop-cons b i 0))) }
-
-pub ruleset alikes = (alike_none, unlike, alike_all, alike_more, rules)
+pub fold_same : (ok : Bool) (a b : List ℕ) → length a ≡ length b → fold (λ r p. r && eqb p.0 p.1) ok (zip a b) ≡ (ok && same a b)
+unfolding same
+fold_same ok [] [] h = sym (and-true ok)
+fold_same ok [] (y ∷ b) h = absurd (omega arith)
+fold_same ok (x ∷ a) [] h = absurd (omega arith)
+fold_same ok (x ∷ a) (y ∷ b) h = fold_same (ok && eqb x y) a b (omega arith) ∙ and_assoc ok (eqb x y) (same a b)
 
 -- ## A part
 

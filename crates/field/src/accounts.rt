@@ -8,7 +8,7 @@ ghost use Rattle.field.specs.Leaf.{TenDigits, wrong_as, numeric_of};
 ghost use Rattle.field.specs.Taught.{is_eleven_taught};
 
 use crate::bytes::part;
-use crate::numbers::{Numeric, digits_at, right, wide, wrong};
+use crate::numbers::{Numeric, digits_at, right, wrong};
 
 // The eleven check as it is taught: 'add the digits one after the other, and add each running total into a second one'
 // (02). They pass where that divides by 11.
@@ -19,11 +19,9 @@ fn is_eleven(s: &[u8]) -> bool
 {
     let mut running: u64 = 0;
     let mut second: u64 = 0;
-    let mut i = 0;
-    while i < s.len() {
-        running = running + wide(s[i] - 48);
-        second = second + running;
-        i += 1;
+    for c in s {
+        running += u64::from(*c - b'0');
+        second += running;
     }
     second % 11 == 0
 }

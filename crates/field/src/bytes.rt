@@ -1,6 +1,7 @@
 // Bytes of a slice. No loop ends early, so that the compiler can take many bytes at a time.
-ghost use Rattle.std.specs.Prelude.{◌≡◌, ◌+◌, ◌≤◌, length, take, drop};
+ghost use Rattle.std.specs.Prelude.{◌≡◌, ℕ, ◌+◌, ◌≤◌, Bool, length, take, drop};
 ghost use Rattle.machine.specs.Lists.{all, same, pasted, put_in, is_digit, is_space};
+ghost use Rattle.field.specs.Bytes.{Answers};
 ghost use Rattle.format.specs.Cutting.{next_line};
 ghost use Rattle.format.specs.Fields.{printable, left_justified};
 
@@ -43,42 +44,32 @@ fn is_digit(b: u8) -> bool
     (48 <= b) & (b <= 57)
 }
 
+// Whether each byte passes. All are tried, so that the compiler can take many at a time.
+fn every<F: Fn(u8) -> bool>(s: &[u8], passes: F) -> bool
+    requires { F.IsAlwaysCallable passes }
+    ensures { (p : ℕ → Bool) → Answers (F.post passes) p → result ≡ all p s.now }
+{
+    s.iter().fold(true, |ok, b| ok & passes(*b))
+}
+
 // Only bytes from 32 to 126.
 pub(crate) fn is_printable(s: &[u8]) -> bool
     ensures { result ≡ all printable s.now }
 {
-    let mut ok = true;
-    let mut i = 0;
-    while i < s.len() {
-        ok = ok & is_text(s[i]);
-        i += 1;
-    }
-    ok
+    every(s, is_text)
 }
 
 pub fn is_digits(s: &[u8]) -> bool
     ensures { result ≡ all is_digit s.now }
 {
-    let mut ok = true;
-    let mut i = 0;
-    while i < s.len() {
-        ok = ok & is_digit(s[i]);
-        i += 1;
-    }
-    ok
+    every(s, is_digit)
 }
 
 // Only spaces.
 pub fn is_blank(s: &[u8]) -> bool
     ensures { result ≡ all is_space s.now }
 {
-    let mut ok = true;
-    let mut i = 0;
-    while i < s.len() {
-        ok = ok & (s[i] == 32);
-        i += 1;
-    }
-    ok
+    every(s, |b| b == b' ')
 }
 
 pub fn is_same(a: &[u8], b: &[u8]) -> bool
@@ -87,13 +78,9 @@ pub fn is_same(a: &[u8], b: &[u8]) -> bool
     if a.len() != b.len() {
         return false;
     }
-    let mut ok = true;
-    let mut i = 0;
-    while i < a.len() {
-        ok = ok & (a[i] == b[i]);
-        i += 1;
-    }
-    ok
+    a.iter()
+        .zip(b)
+        .fold(true, |same, (x, y)| same & (x == y))
 }
 
 // A first byte that is no space.
@@ -106,24 +93,13 @@ pub(crate) fn is_left_justified(s: &[u8]) -> bool
     s[0] != 32
 }
 
-fn copy(text: &[u8], at: usize, room: &mut [u8])
-    requires { at + length text.now ≤ length room.old }
-    ensures { room.new ≡ pasted room.old at text.now }
-{
-    let mut i: usize = 0;
-    while i < text.len() {
-        room[at + i] = text[i];
-        i += 1;
-    }
-}
-
 // A text in a room from an offset on. Where it does not fit, the room stays as it was.
 pub fn put(text: &[u8], at: usize, room: &mut [u8])
     ensures { room.new ≡ put_in room.old at text.now }
 {
     if at <= room.len() {
         if text.len() <= room.len() - at {
-            copy(text, at, room);
+            room[at..at + text.len()].copy_from_slice(text);
         }
     }
 }
