@@ -9,39 +9,17 @@ ghost use Rattle.format.specs.Fields.{printable, left_justified};
 pub fn part(s: &[u8], at: usize, width: usize) -> &[u8]
     ensures { result.now ≡ take width (drop at s.now) }
 {
-    if at <= s.len() {
-        if width <= s.len() - at {
-            &s[at..at + width]
-        } else {
-            &s[at..]
-        }
-    } else {
-        &s[..0]
-    }
+    let rest = s.get(at..).unwrap_or(&[]);
+    rest.get(..width).unwrap_or(rest)
 }
 
 // The next line from at, or as many bytes of it as there are.
 pub fn next_line(bytes: &[u8], at: usize) -> &[u8]
     ensures { result.now ≡ next_line (drop at bytes.now) }
 {
-    if bytes.len() <= at {
-        return &bytes[..0];
-    }
-    let rest = &bytes[at..];
+    let rest = bytes.get(at..).unwrap_or(&[]);
     let cut = format::cut_of(rest);
     part(rest, 0, cut.bytes)
-}
-
-fn is_text(b: u8) -> bool
-    ensures { result ≡ printable b }
-{
-    (32 <= b) & (b <= 126)
-}
-
-fn is_digit(b: u8) -> bool
-    ensures { result ≡ is_digit b }
-{
-    (48 <= b) & (b <= 57)
 }
 
 // Whether each byte passes. All are tried, so that the compiler can take many at a time.
@@ -56,13 +34,13 @@ fn every<F: Fn(u8) -> bool>(s: &[u8], passes: F) -> bool
 pub(crate) fn is_printable(s: &[u8]) -> bool
     ensures { result ≡ all printable s.now }
 {
-    every(s, is_text)
+    every(s, |b| matches!(b, b' '..=b'~'))
 }
 
 pub fn is_digits(s: &[u8]) -> bool
     ensures { result ≡ all is_digit s.now }
 {
-    every(s, is_digit)
+    every(s, |b| b.is_ascii_digit())
 }
 
 // Only spaces.
@@ -75,22 +53,14 @@ pub fn is_blank(s: &[u8]) -> bool
 pub fn is_same(a: &[u8], b: &[u8]) -> bool
     ensures { result ≡ same a.now b.now }
 {
-    if a.len() != b.len() {
-        return false;
-    }
-    a.iter()
-        .zip(b)
-        .fold(true, |same, (x, y)| same & (x == y))
+    a.len() == b.len() && a.iter().zip(b).fold(true, |same, (x, y)| same & (x == y))
 }
 
 // A first byte that is no space.
 pub(crate) fn is_left_justified(s: &[u8]) -> bool
     ensures { result ≡ left_justified s.now }
 {
-    if s.len() == 0 {
-        return false;
-    }
-    s[0] != 32
+    s.first().is_some_and(|b| *b != b' ')
 }
 
 // A text in a room from an offset on. Where it does not fit, the room stays as it was.

@@ -2,14 +2,13 @@
 use Rattle.std.proofs.Common.{true, ◌&&◌, eqb, ◌∙◌, rules, tests}
 use Rattle.std.proofs.lemmas.Iterator.{YieldsList-from_slice, YieldsList-from_zip}
 use Rattle.std.proofs.lemmas.Iterator.Consumers.{fold_from_yields_List}
-use Rattle.machine.proofs.Base.{unlike}
-use Rattle.field.proofs.Slices.{fold_same}
+use Rattle.field.proofs.Slices.{fold_same, unlike_length}
 use Rattle.field.proofs.bytes.is_same.Goals as goal
 
 pub returns-then-a-b : goal.returns-then-a-b
-returns-then-a-b c = search unlike depth 2
-
-pub returns : goal.returns
-returns c =
+returns-then-a-b c =
     let pairs = YieldsList-from_zip (YieldsList-from_slice c.args.a.now (search rules)) (YieldsList-from_slice c.args.b.now (search rules)) in
-    fold_from_yields_List _ (λ r p. r && eqb p.0 p.1) _ _ c.fold.ensures.ran pairs (λ r p b q k. search (rules, tests)) ∙ fold_same true _ _ c.if-a-b.false
+    fold_from_yields_List _ (λ r p. r && eqb p.0 p.1) _ _ c.fold.ensures.ran pairs (λ r p b q k. search (rules, tests)) ∙ fold_same true _ _ c.if-a-b.true
+
+pub returns-else-a-b : goal.returns-else-a-b
+returns-else-a-b c = search unlike_length depth 2
