@@ -51,14 +51,9 @@ module _ (y i : ℕ) {s r : ℕ} (e : s ≡ days_of_months y (i - 1)) (t : r ≡
           let b : (suc j + 1) - 1 ≡ suc j = omega arith in
           ap (λ n. days_of_months y n + days_in (suc j) y) a ∙ sym (ap (days_of_months y) b)
 
-pub months_done : (y m i : ℕ) {s : ℕ} → i ≤ m → m ≤ i → s ≡ days_of_months y (i - 1) → s ≡ days_of_months y (m - 1)
-months_done y m i h k e = let j : i ≡ m = omega arith in e ∙ ap (λ n. days_of_months y (n - 1)) j
-
 pub months_none : (y : ℕ) → 0 ≡ days_of_months y (1 - 1)
 unfolding days_of_months
 months_none y = refl
-
-pub ruleset months = (months_none, months_fit, months_more, months_done, rules)
 
 -- ## The years before
 

@@ -10,8 +10,6 @@ use borrow.Author.Tests.{le-leb, lt-leb}
 use lib.ListN.{length, get_or, take, drop, drop_of_length-le, length-take}
 use lib.Seq.{drop-cons}
 use lib.Dec.{eqb}
-use mir.Val.{Fits}
-use mir.Syntax.{w64}
 use Rattle.machine.specs.Lists.{pick, all, is_digit}
 use Rattle.machine.specs.Digits.{value_of}
 use Rattle.format.specs.Rules.{max_account, is_eleven, is_ordering_account, is_seven_digits, is_account, is_own_if, is_seven_if}
@@ -21,7 +19,7 @@ use Rattle.field.specs.declared.numbers.Digits.{Digits}
 use Rattle.field.specs.declared.numbers.Numeric.{Numeric}
 use Rattle.field.specs.Leaf.{TenDigits, wrong_as, digits_of, numeric_of}
 use Rattle.field.specs.Taught.{running_totals, added, second_sum, is_eleven_taught}
-use Rattle.field.proofs.Numerics.{first_of, is_digits, next_low, next_high, next_left, is_right, digits_below, tested_of, range_not, range_low, range_in}
+use Rattle.field.proofs.Numerics.{first_of, is_digits, next_high, next_left, is_right, digits_below, tested_of, range_not, range_low, range_in}
 use Rattle.field.proofs.Rows.{of_value}
 use Rattle.field.proofs.Taught.{same_of_ten}
 
@@ -46,31 +44,18 @@ module _ {s : List ℕ} {running second i : ℕ} (r : Adding s running second i)
       let q : second ≡ second_sum s = sym e ∙ rw (← r.left, drop_of_length-le s l) in
       ap (λ n. eqb (n % 11) 0) q
 
-  module _ (h : i < length s) where
-    pub adding_low : 48 ≤ get_or s i 0
-    adding_low = next_low s i r.digits h
-
-    module _ {d : ℕ} (e : d ≡ get_or s i 0 - 48) (k : length s ≤ 10) where
-      pub adding_more : Adding s (running + d) (second + (running + d)) (i + 1)
-      unfolding running_totals added
-      adding_more =
-          let high = next_high s i r.digits h in
-          let q : added (running_totals running (drop i s)) ≡ (running + d) + added (running_totals (running + d) (drop (suc i) s)) = rw (drop-cons s i 0 h, e) in
-          record {
-            within = omega arith;
-            digits = next_left s i r.digits h;
-            running_most = omega (arith, r, high);
-            second_most = omega (arith, r, high);
-            left = rw add-one (omega (arith, r.left, q));
-          }
-
-      pub running_fits : Fits w64 (running + d)
-      running_fits = omega (arith, adding_more)
-
-      pub second_fits : Fits w64 (second + (running + d))
-      second_fits = omega (arith, adding_more)
-
-pub ruleset addings = (adding_none, adding_all, adding_more, adding_low, running_fits, second_fits, rules)
+  pub adding_more : {d : ℕ} → i < length s → d ≡ get_or s i 0 - 48 → length s ≤ 10 → Adding s (running + d) (second + (running + d)) (i + 1)
+  unfolding running_totals added
+  adding_more {d} h e k =
+      let high = next_high s i r.digits h in
+      let q : added (running_totals running (drop i s)) ≡ (running + d) + added (running_totals (running + d) (drop (suc i) s)) = rw (drop-cons s i 0 h, e) in
+      record {
+        within = omega arith;
+        digits = next_left s i r.digits h;
+        running_most = omega (arith, r, high);
+        second_most = omega (arith, r, high);
+        left = rw add-one (omega (arith, r.left, q));
+      }
 
 -- ## It is the check of the number
 

@@ -1,5 +1,5 @@
-// Bytes of a slice. No loop ends early, so that the compiler can take many bytes at a time.
-ghost use Rattle.std.specs.Prelude.{◌≡◌, ℕ, ◌+◌, ◌≤◌, Bool, length, take, drop};
+// Bytes of a slice. No fold ends early, so that the compiler can take many bytes at a time.
+ghost use Rattle.std.specs.Prelude.{◌≡◌, ℕ, Bool, take, drop};
 ghost use Rattle.machine.specs.Lists.{all, same, pasted, put_in, is_digit, is_space};
 ghost use Rattle.field.specs.Bytes.{Answers};
 ghost use Rattle.format.specs.Cutting.{next_line};
@@ -22,7 +22,7 @@ pub fn next_line(bytes: &[u8], at: usize) -> &[u8]
     part(rest, 0, cut.bytes)
 }
 
-// Whether each byte passes. All are tried, so that the compiler can take many at a time.
+// Whether each byte passes.
 fn every<F: Fn(u8) -> bool>(s: &[u8], passes: F) -> bool
     requires { F.IsAlwaysCallable passes }
     ensures { (p : ℕ → Bool) → Answers (F.post passes) p → result ≡ all p s.now }
@@ -67,9 +67,7 @@ pub(crate) fn is_left_justified(s: &[u8]) -> bool
 pub fn put(text: &[u8], at: usize, room: &mut [u8])
     ensures { room.new ≡ put_in room.old at text.now }
 {
-    if at <= room.len() {
-        if text.len() <= room.len() - at {
-            room[at..at + text.len()].copy_from_slice(text);
-        }
+    if at <= room.len() && text.len() <= room.len() - at {
+        room[at..at + text.len()].copy_from_slice(text);
     }
 }
