@@ -2,17 +2,16 @@
 use Prim.Native.Nat.{ℕ, suc, ◌+◌, ◌-◌, ◌*◌, ◌%◌, ◌<◌, ◌≤◌}
 use mathlib.Core.Path.{◌≡◌, sym, ap, ◌∙◌}
 use mathlib.Core.List.{List}
-use mathlib.Core.Bool.{Bool, true, false, or-true, or-false}
+use mathlib.Core.Bool.{Bool, true, false}
 use native.Mathlib.Omega.{arith}
 use native.Mathlib.Numerals.{add-one}
-use borrow.Author.Rules.{rules}
 use borrow.Author.Tests.{le-leb, lt-leb}
 use lib.ListN.{length, get_or, take, drop, drop_of_length-le, length-take}
 use lib.Seq.{drop-cons}
 use lib.Dec.{eqb}
 use Rattle.machine.specs.Lists.{pick, all, is_digit}
 use Rattle.machine.specs.Digits.{value_of}
-use Rattle.format.specs.Rules.{max_account, is_eleven, is_ordering_account, is_seven_digits, is_account, is_own_if, is_seven_if}
+use Rattle.format.specs.Rules.{max_account, is_eleven, is_ordering_account, is_seven_digits, is_own_if, is_seven_if}
 use Rattle.format.specs.Answers.{differs, ordinary_account}
 use Rattle.format.specs.Tests.{range_tests, role_tests}
 use Rattle.field.specs.declared.numbers.Digits.{Digits}
@@ -66,17 +65,6 @@ ordering_yes {l} {v} t e h = e ∙ same_of_ten l t.short t.digits ∙ ap is_elev
 pub ordering_no : (v : ℕ) → v < 100000000 → false ≡ is_ordering_account v
 unfolding is_ordering_account
 ordering_no v h = rw (lt-leb 100000000 v h)
-
-module _ {passes : Bool} (v : ℕ) (e : passes ≡ is_ordering_account v) where
-  pub account_long : passes ≡ true → true ≡ is_account v
-  unfolding is_account
-  account_long h = sym (rw (← e, h) (or-true (is_seven_digits v)))
-
-  pub account_short : {x : Bool} → passes ≡ false → x ≡ is_seven_digits v → x ≡ is_account v
-  unfolding is_account
-  account_short h p = p ∙ sym (rw (← e, h) (or-false (is_seven_digits v)))
-
-pub ruleset elevens = (ordering_yes, ordering_no, account_short, account_long, rules)
 
 -- ## The number
 

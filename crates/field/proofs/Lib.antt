@@ -2,7 +2,6 @@ pub mod Picks
 pub mod Slices
 pub mod Numerics
 pub mod Forms
-pub mod Days
 pub mod Arrivals
 pub mod Taught
 pub mod Elevens
