@@ -8,7 +8,7 @@ use native.Mathlib.Numerals.{add-one}
 use borrow.Author.Tests.{le-leb, lt-leb}
 use lib.ListN.{length, get_or, take, drop, drop_of_length-le, length-take}
 use lib.Seq.{drop-cons}
-use lib.Dec.{eqb}
+use lib.Dec.{eqb, leb}
 use Rattle.machine.specs.Lists.{pick, all, is_digit}
 use Rattle.machine.specs.Digits.{value_of}
 use Rattle.format.specs.Rules.{max_account, is_eleven, is_ordering_account, is_seven_digits, is_own_if, is_seven_if}
@@ -62,7 +62,7 @@ pub ordering_yes : {l : List ℕ} {v : ℕ} {passes : Bool} → TenDigits l v �
 unfolding is_ordering_account
 ordering_yes {l} {v} t e h = e ∙ same_of_ten l t.short t.digits ∙ ap is_eleven (sym t.value) ∙ sym (rw (le-leb 100000000 v h))
 
-pub ordering_no : (v : ℕ) → v < 100000000 → false ≡ is_ordering_account v
+pub ordering_no : (v : ℕ) → v < 100000000 → leb 100000000 v ≡ is_ordering_account v
 unfolding is_ordering_account
 ordering_no v h = rw (lt-leb 100000000 v h)
 

@@ -26,12 +26,15 @@ fn is_eleven(s: &[u8]) -> bool
     second % 11 == 0
 }
 
+// The least number of nine digits.
+const NINE_DIGITS: u64 = 100_000_000;
+
 // Nine or ten digits that pass the eleven check; v is what they stand for.
 fn is_ordering_account(s: &[u8], v: u64) -> bool
     requires { TenDigits s.now v }
     ensures { result ≡ is_ordering_account v }
 {
-    if 100000000 <= v { is_eleven(s) } else { false }
+    NINE_DIGITS <= v && is_eleven(s)
 }
 
 // One to seven digits; v is not zero.
