@@ -1,5 +1,5 @@
 // Numeric fields.
-ghost use Rattle.std.specs.Prelude.{◌≡◌, true, ◌+◌, ◌≤◌, ◌<◌, length, take, drop};
+ghost use Rattle.std.specs.Prelude.{◌≡◌, true, ◌≤◌, length, take, drop};
 ghost use Rattle.machine.specs.Lists.{all, is_digit};
 ghost use Rattle.machine.specs.Digits.{decimal, value_of};
 ghost use Rattle.format.specs.Tests.{range_tests, total_tests, equal_tests};
