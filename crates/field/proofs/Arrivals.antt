@@ -4,11 +4,10 @@ use Prim.Native.Nat.{ℕ, zero, suc, ◌+◌, ◌-◌, ◌*◌, ◌/◌, ◌%◌
 use mathlib.Core.Path.{◌≡◌, refl, sym, ◌∙◌, ap, ap₂, subst}
 use mathlib.Core.Bool.{Bool, true, false, cond, ◌||◌}
 use native.Mathlib.Omega.{arith}
-use borrow.Author.Rules.{rules}
 use borrow.Author.Tests.{eqb-true, eqb-false, ne_eqb}
 use lib.Dec.{T, ltb, eqb, leb, leb→le}
 use lib.IntN.{ℤ, pos, negsuc, ◌-ℤ◌}
-use lib.Signed.{mag, le_z}
+use lib.Signed.{mag}
 use mir.Syntax.{w32, w64}
 use mir.Val.{Fits, SFits, to_z, of_z}
 use mir.ValLaws.{to_z-of_z, to_z_pos}
@@ -16,7 +15,7 @@ use Rattle.machine.specs.Lists.{pick, in_range}
 use Rattle.machine.proofs.Base.{and_l, and_r, of_eq}
 use Rattle.format.specs.Rules.{days_in, is_date}
 use Rattle.field.specs.Rows.{first_answer}
-use Rattle.format.specs.Arrival.{days_of_months, days_of_years, day_number, days_ahead, is_near, is_timely, is_possible, arrival_tests, Arrival}
+use Rattle.format.specs.Arrival.{days_of_months, days_of_years, day_number, days_ahead, is_near, is_timely, arrival_tests, Arrival}
 
 -- ## The months before
 
@@ -49,15 +48,6 @@ module _ (y i : ℕ) {s r : ℕ} (e : s ≡ days_of_months y (i - 1)) (t : r ≡
           let a : suc j - 1 ≡ j = omega arith in
           let b : (suc j + 1) - 1 ≡ suc j = omega arith in
           ap (λ n. days_of_months y n + days_in (suc j) y) a ∙ sym (ap (days_of_months y) b)
-
-pub months_done : (y m i : ℕ) {s : ℕ} → i ≤ m → m ≤ i → s ≡ days_of_months y (i - 1) → s ≡ days_of_months y (m - 1)
-months_done y m i h k e = let j : i ≡ m = omega arith in e ∙ ap (λ n. days_of_months y (n - 1)) j
-
-pub months_none : (y : ℕ) → 0 ≡ days_of_months y (1 - 1)
-unfolding days_of_months
-months_none y = refl
-
-pub ruleset months = (months_none, months_fit, months_more, months_done, rules)
 
 -- ## The years before
 
@@ -127,8 +117,6 @@ module _ (d : ℕ) (h : is_date d ≡ true) where
     pub all_is : to_z w32 ((d % 100 * 365 + (d % 100 + 3) / 4) + r + (d / 10000 - 1)) ≡ pos (day_number d)
     all_is = let b = number_le in ap (to_z w32) number_is ∙ to_z_pos w32 (day_number d) (omega (arith, b))
 
-pub ruleset number = (month_from, month_to, day_from, sum_fits, all_fits, all_sfits, all_is, rules)
-
 -- ## Days ahead
 
 abbrev read : ℤ → ℤ
@@ -149,27 +137,14 @@ module _ (a d : ℕ) (k : is_date a ≡ true) (h : is_date d ≡ true) {x y : �
   plain_fits : SFits w32 (pos (day_number d) -ℤ pos (day_number a))
   plain_fits = let i = diff_mag (day_number d) (day_number a) in let p = number_le d h in let q = number_le a k in record { sfits = omega (arith, i, p, q) }
 
-  pub ahead_fits : SFits w32 (read x -ℤ read y)
+  ahead_fits : SFits w32 (read x -ℤ read y)
   ahead_fits = subst (SFits w32) (sym plain) plain_fits
 
   pub ahead_is : read (read x -ℤ read y) ≡ days_ahead a d
   unfolding days_ahead
   ahead_is = ap read plain ∙ to_z-of_z w32 (pos (day_number d) -ℤ pos (day_number a)) plain_fits
 
-pub ruleset difference = (ahead_fits, ahead_is, rules)
-
 -- ## In time
-
-module _ {n : ℤ} (f : SFits w32 n) where
-  pub near_yes : le_z (pos 0) (read n) ≡ true → le_z (read n) (pos 30) ≡ is_near n
-  unfolding is_near
-  near_yes t = let i : le_z (pos 0) n ≡ true = ap (le_z (pos 0)) (sym (to_z-of_z w32 n f)) ∙ t in rw (to_z-of_z w32 n f, i)
-
-  pub near_no : le_z (pos 0) (read n) ≡ false → false ≡ is_near n
-  unfolding is_near
-  near_no t = let i : le_z (pos 0) n ≡ false = ap (le_z (pos 0)) (sym (to_z-of_z w32 n f)) ∙ t in rw i
-
-pub ruleset nears = (near_yes, near_no, rules)
 
 no_zeros : (d : ℕ) → is_date d ≡ true → eqb d 0 ≡ false
 no_zeros d h = let i = day_from d h in ne_eqb d 0 (omega (arith, i))
@@ -183,19 +158,7 @@ module _ (a d : ℕ) {r : Bool} (h : is_date d ≡ true) (e : r ≡ is_date a) w
   unfolding is_timely
   timely_no t = rw (no_zeros d h, sym e ∙ t)
 
-pub ruleset timelies = (timely_yes, timely_no, rules)
-
 -- ## By cases of the arrival
-
-pub possible_on : {t : Arrival} {d : ℕ} {b : Bool} → t ≡ Some d → b ≡ is_date d → b ≡ is_possible t
-unfolding is_possible
-possible_on e h = h ∙ ap is_possible (sym e)
-
-pub possible_none : {t : Arrival} → t ≡ None → true ≡ is_possible t
-unfolding is_possible
-possible_none e = ap is_possible (sym e)
-
-pub ruleset possibles = (possible_on, possible_none)
 
 module _ {t : Arrival} {d : ℕ} {b : Bool} (v : ℕ) (e : t ≡ Some d) (k : b ≡ is_timely d v) where
   pub arrival_yes : b ≡ true → 0 ≡ first_answer (arrival_tests t v)

@@ -2,27 +2,24 @@
 use Prim.Native.Nat.{ℕ, suc, ◌+◌, ◌-◌, ◌*◌, ◌%◌, ◌<◌, ◌≤◌}
 use mathlib.Core.Path.{◌≡◌, refl, sym, ap, ◌∙◌}
 use mathlib.Core.List.{List}
-use mathlib.Core.Bool.{Bool, true, false, not, ◌&&◌, or-true, or-false}
+use mathlib.Core.Bool.{Bool, true, false, not, ◌&&◌}
 use native.Mathlib.Omega.{arith}
 use native.Mathlib.Numerals.{add-one}
-use borrow.Author.Rules.{rules}
 use borrow.Author.Tests.{le-leb, lt-leb}
 use lib.ListN.{length, get_or, take, drop, drop_of_length-le, length-take}
 use lib.Seq.{drop-cons}
-use lib.Dec.{eqb}
-use mir.Val.{Fits}
-use mir.Syntax.{w64}
+use lib.Dec.{eqb, leb}
 use Rattle.std.specs.Prelude.{Result, Ok}
 use Rattle.machine.specs.Lists.{pick, all, is_digit}
 use Rattle.machine.specs.Digits.{value_of}
-use Rattle.format.specs.Rules.{max_account, is_eleven, is_ordering_account, is_seven_digits, is_account, is_own_if, is_seven_if}
+use Rattle.format.specs.Rules.{max_account, is_eleven, is_ordering_account, is_seven_digits, is_own_if, is_seven_if}
 use Rattle.format.specs.Answers.{differs, ordinary_account}
 use Rattle.format.specs.Tests.{Test, role_tests}
 use Rattle.format.specs.declared.Refusal.{Refusal}
 use Rattle.field.specs.Leaf.{Numeric}
 use Rattle.field.specs.Leaf.{TenDigits, wrong_as, right_of, numeric_of, numeric_read}
 use Rattle.field.specs.Taught.{running_totals, added, second_sum, is_eleven_taught}
-use Rattle.field.proofs.Numerics.{first_of, is_digits, next_low, next_high, next_left, value_below}
+use Rattle.field.proofs.Numerics.{first_of, is_digits, next_high, next_left, value_below}
 use Rattle.field.proofs.Results.{results}
 use Rattle.field.proofs.Rows.{of_value}
 use Rattle.field.proofs.Taught.{same_of_ten}
@@ -48,31 +45,18 @@ module _ {s : List ℕ} {running second i : ℕ} (r : Adding s running second i)
       let q : second ≡ second_sum s = sym e ∙ rw (← r.left, drop_of_length-le s l) in
       ap (λ n. eqb (n % 11) 0) q
 
-  module _ (h : i < length s) where
-    pub adding_low : 48 ≤ get_or s i 0
-    adding_low = next_low s i r.digits h
-
-    module _ {d : ℕ} (e : d ≡ get_or s i 0 - 48) (k : length s ≤ 10) where
-      pub adding_more : Adding s (running + d) (second + (running + d)) (i + 1)
-      unfolding running_totals added
-      adding_more =
-          let high = next_high s i r.digits h in
-          let q : added (running_totals running (drop i s)) ≡ (running + d) + added (running_totals (running + d) (drop (suc i) s)) = rw (drop-cons s i 0 h, e) in
-          record {
-            within = omega arith;
-            digits = next_left s i r.digits h;
-            running_most = omega (arith, r, high);
-            second_most = omega (arith, r, high);
-            left = rw add-one (omega (arith, r.left, q));
-          }
-
-      pub running_fits : Fits w64 (running + d)
-      running_fits = omega (arith, adding_more)
-
-      pub second_fits : Fits w64 (second + (running + d))
-      second_fits = omega (arith, adding_more)
-
-pub ruleset addings = (adding_none, adding_all, adding_more, adding_low, running_fits, second_fits, rules)
+  pub adding_more : {d : ℕ} → i < length s → d ≡ get_or s i 0 - 48 → length s ≤ 10 → Adding s (running + d) (second + (running + d)) (i + 1)
+  unfolding running_totals added
+  adding_more {d} h e k =
+      let high = next_high s i r.digits h in
+      let q : added (running_totals running (drop i s)) ≡ (running + d) + added (running_totals (running + d) (drop (suc i) s)) = rw (drop-cons s i 0 h, e) in
+      record {
+        within = omega arith;
+        digits = next_left s i r.digits h;
+        running_most = omega (arith, r, high);
+        second_most = omega (arith, r, high);
+        left = rw add-one (omega (arith, r.left, q));
+      }
 
 -- ## It is the check of the number
 
@@ -80,20 +64,9 @@ pub ordering_yes : {l : List ℕ} {v : ℕ} {passes : Bool} → TenDigits l v �
 unfolding is_ordering_account
 ordering_yes {l} {v} t e h = e ∙ same_of_ten l t.short t.digits ∙ ap is_eleven (sym t.value) ∙ sym (rw (le-leb 100000000 v h))
 
-pub ordering_no : (v : ℕ) → v < 100000000 → false ≡ is_ordering_account v
+pub ordering_no : (v : ℕ) → v < 100000000 → leb 100000000 v ≡ is_ordering_account v
 unfolding is_ordering_account
 ordering_no v h = rw (lt-leb 100000000 v h)
-
-module _ {passes : Bool} (v : ℕ) (e : passes ≡ is_ordering_account v) where
-  pub account_long : passes ≡ true → true ≡ is_account v
-  unfolding is_account
-  account_long h = sym (rw (← e, h) (or-true (is_seven_digits v)))
-
-  pub account_short : {x : Bool} → passes ≡ false → x ≡ is_seven_digits v → x ≡ is_account v
-  unfolding is_account
-  account_short h p = p ∙ sym (rw (← e, h) (or-false (is_seven_digits v)))
-
-pub ruleset elevens = (ordering_yes, ordering_no, account_short, account_long, rules)
 
 -- ## The number
 

@@ -33,9 +33,6 @@ module _ (s : List ℕ) (i : ℕ) (left : all is_digit (drop i s) ≡ true) (h :
   is_digit_lem : is_digit (get_or s i 0) ≡ true
   is_digit_lem = and_first _ _ here
 
-  pub next_low : 48 ≤ get_or s i 0
-  next_low = leb-true 48 _ (and_first _ _ is_digit_lem)
-
   pub next_high : get_or s i 0 ≤ 57
   next_high = leb-true _ 57 (and_second (leb 48 (get_or s i 0)) _ is_digit_lem)
 
@@ -56,19 +53,13 @@ pub record Reading (s : List ℕ) (v i : ℕ) : Type 0 where
   pub small : v < pow10 i
   pub value : value_after v (drop i s) ≡ value_of s
 
-pub reading_none : (s : List ℕ) → all is_digit s ≡ true → Reading s 0 0
-reading_none s h = record { within = omega arith; digits = h; small = omega arith; value = refl }
-
 module _ {s : List ℕ} {v i : ℕ} (r : Reading s v i) where
   pub reading_all : length s ≤ i → v ≡ value_of s
   unfolding value_after
   reading_all l = rw (← r.value, drop_of_length-le s l)
 
   module _ (h : i < length s) where
-    pub digit_low : 48 ≤ get_or s i 0
-    digit_low = next_low s i r.digits h
-
-    pub digit_high : get_or s i 0 ≤ 57
+    digit_high : get_or s i 0 ≤ 57
     digit_high = next_high s i r.digits h
 
     pub reading_more : {d : ℕ} → d ≡ get_or s i 0 - 48 → Reading s (v * 10 + d) (i + 1)
@@ -91,8 +82,6 @@ module _ {s : List ℕ} {v i : ℕ} (r : Reading s v i) where
 
       pub plus_fits : {d : ℕ} → d ≡ get_or s i 0 - 48 → Fits w64 (v * 10 + d)
       plus_fits e = omega (arith, room, digit_high)
-
-pub ruleset readings = (reading_none, reading_all, reading_more, digit_low, digit_high, times_fits, plus_fits, rules)
 
 -- ## What digits are
 

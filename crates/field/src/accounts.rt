@@ -8,7 +8,7 @@ ghost use Rattle.field.specs.Leaf.{TenDigits, wrong_as, right_of, numeric_read, 
 ghost use Rattle.field.specs.Taught.{is_eleven_taught};
 
 use crate::bytes::part;
-use crate::numbers::{digits_at, wide};
+use crate::numbers::digits_at;
 use format::Refusal;
 
 // The eleven check as it is taught: 'add the digits one after the other, and add each running total into a second one'
@@ -20,21 +20,22 @@ fn is_eleven(s: &[u8]) -> bool
 {
     let mut running: u64 = 0;
     let mut second: u64 = 0;
-    let mut i = 0;
-    while i < s.len() {
-        running = running + wide(s[i] - 48);
-        second = second + running;
-        i += 1;
+    for c in s {
+        running += u64::from(*c - b'0');
+        second += running;
     }
     second % 11 == 0
 }
+
+// The least number of nine digits.
+const NINE_DIGITS: u64 = 100_000_000;
 
 // Nine or ten digits that pass the eleven check; v is what they stand for.
 fn is_ordering_account(s: &[u8], v: u64) -> bool
     requires { TenDigits s.now v }
     ensures { result ≡ is_ordering_account v }
 {
-    if 100000000 <= v { is_eleven(s) } else { false }
+    NINE_DIGITS <= v && is_eleven(s)
 }
 
 // One to seven digits; v is not zero.

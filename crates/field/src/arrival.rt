@@ -15,11 +15,8 @@ fn days_before(month: u64, year: u64) -> u64
     ensures { result ≡ days_of_months year (month - 1) }
 {
     let mut sum = 0;
-    let mut i = 1;
-    while i < month {
-        let more = days_in(i, year);
-        sum += more;
-        i += 1;
+    for earlier in 1..month {
+        sum += days_in(earlier, year);
     }
     sum
 }

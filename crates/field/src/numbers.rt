@@ -1,5 +1,5 @@
 // Numeric fields.
-ghost use Rattle.std.specs.Prelude.{◌≡◌, true, ◌+◌, ◌≤◌, ◌<◌, length, take, drop};
+ghost use Rattle.std.specs.Prelude.{◌≡◌, true, ◌≤◌, length, take, drop};
 ghost use Rattle.machine.specs.Lists.{all, is_digit};
 ghost use Rattle.machine.specs.Digits.{decimal, value_of};
 ghost use Rattle.format.specs.Tests.{range_tests, total_tests, equal_tests};
@@ -9,44 +9,27 @@ ghost use Rattle.field.specs.Leaf.{no_tests, numeric_read, numeric_answer, numer
 use crate::bytes::{is_digits, part};
 use format::Refusal;
 
-pub(crate) fn wide(x: u8) -> u64
-    ensures { result ≡ x }
-{
-    x as u64
-}
-
 fn value(s: &[u8]) -> u64
     requires short { length s.now ≤ 18 }
     requires digits { all is_digit s.now ≡ true }
     ensures { result ≡ value_of s.now }
 {
-    let mut v: u64 = 0;
-    let mut i = 0;
-    while i < s.len() {
-        v = v * 10 + wide(s[i] - 48);
-        i += 1;
+    let mut v = 0;
+    for c in s {
+        v = v * 10 + u64::from(*c - b'0');
     }
     v
-}
-
-fn digit(d: u64) -> u8
-    requires { d < 10 }
-    ensures { result ≡ 48 + d }
-{
-    48 + d as u8
 }
 
 // A number in the twenty digits that every number fits.
 pub fn spelt(n: u64) -> [u8; 20]
     ensures { result ≡ decimal 20 n }
 {
-    let mut digits = [48u8; 20];
+    let mut digits = [b'0'; 20];
     let mut rest = n;
-    let mut i: usize = 20;
-    while 0 < i {
-        i -= 1;
-        digits[i] = digit(rest % 10);
-        rest = rest / 10;
+    for i in (0..20).rev() {
+        digits[i] = b'0' + (rest % 10) as u8;
+        rest /= 10;
     }
     digits
 }
