@@ -5,5 +5,6 @@ pub mod accounts;
 pub mod arrival;
 pub mod bytes;
 pub mod dates;
+pub mod lines;
 pub mod numbers;
 pub mod texts;
