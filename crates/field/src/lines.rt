@@ -17,14 +17,15 @@ pub fn lines_in(bytes: &[u8]) -> Lines
 }
 
 impl<'a> Iterator for Lines<'a> {
-    ghost use Rattle.std.specs.Iterator.{YieldsFirstRef, item_count};
+    ghost use Rattle.std.specs.Prelude.{length};
+    ghost use Rattle.std.specs.Iterator.{YieldsFirstRef, at_most};
     ghost use Rattle.format.specs.Cutting.{lines_in};
 
     type Item = &'a [u8];
 
     ghost next_gives = { YieldsFirstRef (λ s. lines_in s.rest.now) };
 
-    ghost remaining = { item_count (λ s. lines_in s.rest.now) };
+    ghost remaining = { λ s. at_most (length s.rest.now) };
 
     fn next(&mut self) -> Option<&'a [u8]> {
         if self.rest.is_empty() {
