@@ -163,7 +163,3 @@ module _ {r : FileRead} {o : List ℕ} (file out : List ℕ) (e : r ≡ read_of 
 
   pub room_filled : {n : ℕ} → r.answer.number ≡ 0 → n ≡ kept_count (lines_in file) → n ≤ length out / 52 → o ≡ pasted out 0 (without_cities file) → o ≡ room_after file out
   room_filled z f l h = accepted_room z (put_fitting out 0 (without_cities file) (omega arith) (omega (arith, size file (length out) e z f)) h)
-
--- what is said to be written fits
-pub written_fits : {n room : ℕ} → n ≤ room / 52 → n * 52 ≤ room
-written_fits l = omega arith

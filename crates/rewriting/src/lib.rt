@@ -63,24 +63,20 @@ pub fn rewrite(file: &[u8], out: &mut [u8]) -> Rewritten
     ensures bytes { out.new ≡ room_after file.now out.old }
     ensures again { Promised file.now result out.new }
 {
-    let read = file::check(file);
-    let a = read.answer;
-    if a.number != 0 {
-        return Rewritten {
-            answer: a,
-            written: 0,
-        };
+    let answer = file::check(file).answer;
+    if answer.number != 0 {
+        return Rewritten { answer, written: 0 };
     }
     let n = count(file);
     if out.len() / writer::LINE < n {
         return Rewritten {
-            answer: Answer::refusal(format::NO_ROOM, a.line, 0),
+            answer: Answer::refusal(format::NO_ROOM, answer.line, 0),
             written: 0,
         };
     }
     copy(file, out);
     Rewritten {
-        answer: a,
+        answer,
         written: n * writer::LINE,
     }
 }
