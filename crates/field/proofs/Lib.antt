@@ -9,3 +9,4 @@ pub mod Elevens
 pub mod Rows
 pub mod Putting
 pub mod Spelling
+pub mod Filling
