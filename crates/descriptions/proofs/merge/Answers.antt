@@ -1,7 +1,6 @@
 -- What merge ensures, by the laws of Merging.
-use Rattle.std.proofs.Common.{rules}
 use Rattle.descriptions.proofs.Merging.{merge_is}
 use Rattle.descriptions.proofs.merge.Goals as goal
 
 pub returns : goal.returns
-returns c = search (merge_is, rules) depth 3
+returns c = search merge_is depth 2
