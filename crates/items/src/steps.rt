@@ -70,15 +70,15 @@ impl Search {
         }
     }
 
-    // With what a line tells, where the batch or the item that it tells of is open.
-    fn told<F: FnOnce(Found) -> Found>(self, wanted: bool, tell: F) -> Search
-        requires { F.pre tell self.found }
-        ensures on { wanted ≡ true → (found : Found) × F.post tell self.found found × (result ≡ finding self found) }
+    // With the text of a line, where the batch or the item that it tells of is open.
+    fn told<F: FnOnce(Found, &[u8]) -> Found>(self, wanted: bool, text: &[u8], tell: F) -> Search
+        requires { F.pre tell self.found text }
+        ensures on { wanted ≡ true → (found : Found) × F.post tell self.found text.entry found × (result ≡ finding self found) }
         ensures off { wanted ≡ false → result ≡ self }
     {
         if wanted {
             return Search {
-                found: tell(self.found),
+                found: tell(self.found, text),
                 ..self
             };
         }
@@ -93,28 +93,20 @@ impl Search {
             return self.opened(line);
         }
         if begins(line, Kind::PaymentReference) {
-            return self.told(
-                self.here,
-                |found| found.with_reference(text_at(line, Kind::PaymentReference)),
-            );
+            let text = text_at(line, Kind::PaymentReference);
+            return self.told(self.here, text, Found::with_reference);
         }
         if begins(line, Kind::Description) {
-            return self.told(
-                self.here,
-                |found| found.with_own(text_at(line, Kind::Description)),
-            );
+            let text = text_at(line, Kind::Description);
+            return self.told(self.here, text, Found::with_own);
         }
         if is_name(line) {
-            return self.told(
-                self.here,
-                |found| found.with_name(text_at(line, Kind::NamePayer)),
-            );
+            let text = text_at(line, Kind::NamePayer);
+            return self.told(self.here, text, Found::with_name);
         }
         if begins(line, Kind::FixedDescription) {
-            return self.told(
-                self.inside,
-                |found| found.with_fixed(text_at(line, Kind::FixedDescription)),
-            );
+            let text = text_at(line, Kind::FixedDescription);
+            return self.told(self.inside, text, Found::with_fixed);
         }
         if is_header(line) {
             return self.headed();
