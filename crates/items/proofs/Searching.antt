@@ -3,11 +3,15 @@ use Prim.Native.Nat.{ℕ, ◌-◌}
 use mathlib.Core.Path.{◌≡◌, refl}
 use mathlib.Core.Bool.{Bool, true, false}
 use borrow.Author.Tests.{ne_eqb}
+use lib.Dec.{eqb}
 use Rattle.machine.specs.Lists.{pick}
 use Rattle.record.specs.declared.TransactionFields.{TransactionFields}
-use Rattle.items.specs.Search.{with_item, searching, finding, opened}
+use Rattle.items.specs.Search.{with_item, searching, finding, headed, opened}
 use Rattle.items.specs.declared.Found.{Found}
 use Rattle.items.specs.declared.Search.{Search}
+
+pub headed_is : {n : ℕ} (s : Search) → n ≡ s.batches - 1 → searching n s.items (eqb s.batches 1) false s.found ≡ headed s
+headed_is s e = rw e
 
 module _ (s : Search) (t : TransactionFields) where
   pub opened_here : {n : ℕ} {g : Found} {u : TransactionFields} → s.inside ≡ true → s.items ≡ 1 → n ≡ s.items - 1 → u ≡ t → g ≡ with_item s.found u

@@ -5,4 +5,4 @@ use Rattle.items.proofs.Found.is_within.Goals as goal
 
 pub returns : goal.returns
 unfolding is_within
-returns c = refl
+returns c = search refl depth 2
