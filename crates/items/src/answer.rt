@@ -42,12 +42,8 @@ impl Found {
     fn texts(self) -> [u8; 128]
         ensures { result ≡ texts_found self }
     {
-        merge(
-            self.fixed,
-            self.own,
-            format::most_descriptions(self.referred),
-        )
-        .text
+        let most = format::most_descriptions(self.referred);
+        merge(self.fixed, self.own, most).text
     }
 }
 
