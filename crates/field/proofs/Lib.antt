@@ -10,3 +10,4 @@ pub mod Rows
 pub mod Putting
 pub mod Spelling
 pub mod Filling
+pub mod FirstLine

@@ -3,4 +3,4 @@ use Rattle.field.proofs.Filling.{first_filled}
 use Rattle.field.proofs.filled.filled_to.Goals as goal
 
 pub returns : goal.returns
-returns g c = first_filled g.row.N c.args.text.now c.part.ensures c.put.ensures
+returns g c = search first_filled depth 2
