@@ -9,7 +9,7 @@ pub struct Lines<'a> {
     rest: &'a [u8],
 }
 
-// All lines of some bytes; the last one is as long as the bytes that are left.
+// All lines of some bytes, the last one as far as the bytes go.
 pub fn lines_in(bytes: &[u8]) -> Lines
     ensures { result.rest.now ≡ bytes.now }
 {
