@@ -1,31 +1,20 @@
 -- One more text at the next place. Assumes nothing.
-use Prim.Native.Nat.{ℕ, zero, suc, ◌+◌, ◌*◌, ◌≤◌, ◌<◌}
-use mathlib.Core.Path.{◌≡◌, refl, sym, ◌∙◌, ap, ap₂}
+use Prim.Native.Nat.{ℕ, ◌+◌, ◌*◌, ◌≤◌, ◌<◌, min}
+use mathlib.Core.Path.{◌≡◌, sym, ◌∙◌, ap, ap₂}
 use mathlib.Core.List.{List, [], ◌∷◌, ◌++◌, append-nil}
 use native.Mathlib.Omega.{arith}
 use borrow.Author.Rules.{rules}
 use borrow.Author.Tests.{lt-ltb, le-ltb}
-use lib.ListN.{length, take, drop, length-append, length-take}
-use lib.Seq.{length-take-le}
-use Rattle.machine.specs.Lists.{pick, spaces, pasted, put_in}
-use Rattle.field.proofs.Putting.{put_fits, put_front}
+use lib.ListN.{length, take, drop, length-append}
+use Rattle.machine.specs.Lists.{pick, pasted, put_in}
+use Rattle.field.proofs.Putting.{put_fits}
+use Rattle.field.proofs.Filling.{filled_long}
 use Rattle.descriptions.specs.Texts.{texts_in, texts_of, joined, in_places, text_from, with_text}
 use Rattle.descriptions.specs.declared.Descriptions.{Descriptions}
-use Rattle.descriptions.proofs.Merging.{least_left, join_texts, join_append, texts_long}
-
-take_spaces : (n m : ℕ) → n ≤ m → take n (spaces m) ≡ spaces n
-take_spaces zero m h = refl
-take_spaces (suc n) zero h = absurd (omega arith)
-take_spaces (suc n) (suc m) h = ap (λ t. 32 ∷ t) (take_spaces n m (omega arith))
-
--- a text filled with spaces is its bytes and then the spaces that are left
-pub filled_is : (n m : ℕ) (t : List ℕ) → n ≤ m → take n (t ++ spaces m) ≡ take n t ++ drop (length (take n t)) (spaces n)
-filled_is zero m t h = refl
-filled_is (suc n) m [] h = take_spaces (suc n) m h
-filled_is (suc n) m (x ∷ t) h = ap (λ l. x ∷ l) (filled_is n m t (omega arith))
+use Rattle.descriptions.proofs.Merging.{join_texts, join_append, texts_long}
 
 pub text_long : (t : List ℕ) → length (text_from t) ≡ 32
-text_long t = length-take-le 32 (t ++ spaces 32) (omega (arith, length-append t (spaces 32)))
+text_long t = filled_long 32 t
 
 -- a text at its place, as a list of texts in places
 text_put : (l t : List ℕ) (c : ℕ) {r : List ℕ} → r ≡ pasted l (32 * c) (text_from t)
@@ -42,17 +31,15 @@ module _ (d : Descriptions) (t : List ℕ) where
   with_is : {r : Descriptions} → d.count < 4 → r ≡ in_places d.text (texts_in d.count d.text ++ (text_from t ∷ [])) → r ≡ with_text d t
   unfolding with_text pick
   with_is h e =
-      e ∙ ap (λ n. in_places d.text (texts_in n d.text ++ (text_from t ∷ []))) (sym (least_left d.count 4 (omega arith)))
+      let z : d.count ≡ min d.count 4 = omega arith in
+      e ∙ ap (λ n. in_places d.text (texts_in n d.text ++ (text_from t ∷ []))) z
       ∙ ap (λ b. pick b (in_places d.text (texts_of d ++ (text_from t ∷ []))) d) (sym (lt-ltb d.count 4 h))
 
-  pub with_more : {p x r : List ℕ} → d.count < 4 → length d.text ≡ 128 → p ≡ take 32 t → x ≡ put_in (spaces 32) 0 p → r ≡ put_in d.text (32 * d.count) x
+  pub with_more : {x r : List ℕ} → d.count < 4 → length d.text ≡ 128 → x ≡ text_from t → r ≡ put_in d.text (32 * d.count) x
       → ◌≡◌ {A = Descriptions} (record { text = r; count = d.count + 1 }) (with_text d t)
-  with_more {p} {x} {r} h k q u v =
-      let w : length p ≤ 32 = rw (q, length-take) (omega arith) in
-      let room : length (spaces 32) ≡ 32 = refl in
-      let e : x ≡ text_from t = put_front (spaces 32) p (omega arith) u ∙ sym (filled_is 32 32 t (omega arith) ∙ ap (λ y. y ++ drop (length y) (spaces 32)) (sym q)) in
+  with_more {x} {r} h k u v =
       let l = text_long t in
-      with_is h (text_put d.text t d.count (put_fits d.text (32 * d.count) (text_from t) (omega arith) (v ∙ ap (put_in d.text (32 * d.count)) e)))
+      with_is h (text_put d.text t d.count (put_fits d.text (32 * d.count) (text_from t) (omega arith) (v ∙ ap (put_in d.text (32 * d.count)) u)))
 
   pub with_four : 4 ≤ d.count → d ≡ with_text d t
   unfolding with_text pick

@@ -3,12 +3,12 @@ use Prim.Native.Nat.{ℕ, ◌+◌, ◌*◌, ◌≤◌, ◌<◌}
 use mathlib.Core.Path.{◌≡◌, refl, ◌∙◌, ap, ap₂}
 use mathlib.Core.List.{List, [], ◌∷◌, ◌++◌, append_assoc}
 use native.Mathlib.Omega.{arith}
+use Rattle.std.proofs.Math.Nat.{min-eq_left}
 use borrow.Author.Tests.{lt-ltb}
 use lib.ListN.{length, take, drop, length-append}
 use lib.Seq.{take_at, drop_at, drop-append-add, drop-drop}
 use Rattle.machine.specs.Lists.{pick, spaces}
 use Rattle.descriptions.specs.Texts.{texts_in, texts_of, joined, merge_of, in_places, merged, text_from, with_text}
-use Rattle.descriptions.proofs.Merging.{least_left}
 use Rattle.descriptions.proofs.Adding.{text_long}
 
 -- texts of 32 characters
@@ -33,7 +33,7 @@ texts_back (t ∷ ts) l h =
 
 -- what is read of the places is what was put there
 pub texts_of_places : (room : List ℕ) (ts : List (List ℕ)) → Full ts → length ts ≤ 4 → texts_of (in_places room ts) ≡ ts
-texts_of_places room ts h k = ap (λ n. texts_in n (joined ts ++ drop (32 * length ts) room)) (least_left (length ts) 4 k) ∙ texts_back ts (drop (32 * length ts) room) h
+texts_of_places room ts h k = ap (λ n. texts_in n (joined ts ++ drop (32 * length ts) room)) (min-eq_left k) ∙ texts_back ts (drop (32 * length ts) room) h
 
 pub with_places : (room : List ℕ) (ts : List (List ℕ)) (t : List ℕ) → Full ts → length ts < 4 → with_text (in_places room ts) t ≡ in_places room (ts ++ (text_from t ∷ []))
 unfolding with_text pick
@@ -52,5 +52,5 @@ pub merged_places : (room space : List ℕ) (fixed own : List (List ℕ)) (limit
     → merged (in_places room fixed) (in_places space own) limit ≡ in_places (spaces 128) (merge_of limit fixed own)
 unfolding merged
 merged_places room space fixed own limit h k g l m =
-    ap (λ n. in_places (spaces 128) (merge_of n (texts_of (in_places room fixed)) (texts_of (in_places space own)))) (least_left limit 4 m)
+    ap (λ n. in_places (spaces 128) (merge_of n (texts_of (in_places room fixed)) (texts_of (in_places space own)))) (min-eq_left m)
     ∙ ap₂ (λ x y. in_places (spaces 128) (merge_of limit x y)) (texts_of_places room fixed h k) (texts_of_places space own g l)

@@ -1,6 +1,7 @@
 -- Texts of 32 characters in four places: the merging of lists of them, and each function's result for every input.
-use Rattle.std.specs.Prelude.{ℕ, zero, suc, ◌*◌, List, [], ◌∷◌, ◌++◌, length, take, drop, leb, ltb}
+use Rattle.std.specs.Prelude.{ℕ, zero, suc, ◌*◌, min, List, [], ◌∷◌, ◌++◌, length, take, drop, ltb}
 use Rattle.machine.specs.Lists.{pick, spaces}
+use Rattle.field.specs.Filled.{filled_to}
 use Rattle.descriptions.specs.declared.Descriptions.{Descriptions}
 
 -- THE MERGING of lists of texts: 'the fixed ones, then the item's own, cut to the first four, or three with a reference'
@@ -12,9 +13,6 @@ merge_of limit fixed own = take limit (fixed ++ own)
 abbrev pub places : ℕ
 places = 4
 
-abbrev pub least : ℕ → ℕ → ℕ
-least a b = pick (leb a b) a b
-
 -- the first n texts of these bytes
 abbrev pub texts_in : ℕ → List ℕ → List (List ℕ)
 texts_in zero l = []
@@ -22,7 +20,7 @@ texts_in (suc n) l = take 32 l ∷ texts_in n (drop 32 l)
 
 -- a count above the places counts as they do
 abbrev pub texts_of : Descriptions → List (List ℕ)
-texts_of d = texts_in (least d.count places) d.text
+texts_of d = texts_in (min d.count places) d.text
 
 abbrev pub joined : List (List ℕ) → List ℕ
 joined [] = []
@@ -38,11 +36,11 @@ no_texts = record { text = spaces 128; count = 0 }
 
 -- a limit above the places counts as they do
 unfoldable pub merged : Descriptions → Descriptions → ℕ → Descriptions
-merged fixed own limit = in_places (spaces 128) (merge_of (least limit places) (texts_of fixed) (texts_of own))
+merged fixed own limit = in_places (spaces 128) (merge_of (min limit places) (texts_of fixed) (texts_of own))
 
 -- the first 32 characters, filled with spaces
 abbrev pub text_from : List ℕ → List ℕ
-text_from t = take 32 (t ++ spaces 32)
+text_from t = filled_to 32 t
 
 -- one more text, where a place is left
 unfoldable pub with_text : Descriptions → List ℕ → Descriptions

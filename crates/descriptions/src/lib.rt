@@ -1,11 +1,12 @@
 // Descriptions: up to four texts of 32 characters each; fixed, an item's own, and both merged.
 #![tactic(auto)]
 
-ghost use Rattle.std.specs.Prelude.{◌≡◌, ◌++◌, ◌+◌, ◌*◌, ◌≤◌, take, drop};
+ghost use Rattle.std.specs.Prelude.{◌≡◌, ◌++◌, ◌+◌, ◌*◌, ◌≤◌, length, take, drop};
 ghost use Rattle.machine.specs.Lists.{spaces};
-ghost use Rattle.descriptions.specs.Texts.{places, least, no_texts, merged, with_text};
+ghost use Rattle.descriptions.specs.Texts.{places, no_texts, merged, with_text};
 
 use field::bytes::{part, put};
+use field::filled::filled_to;
 
 // Four places of 32 characters, of which the first so many are used.
 #[derive(Clone, Copy)]
@@ -14,26 +15,15 @@ pub struct Descriptions {
     pub count: u64,
 }
 
-fn least_of(a: u64, b: u64) -> u64
-    ensures { result ≡ least a b }
-{
-    if a <= b {
-        return a;
-    }
-    b
-}
-
-// The first texts of one, then the first of the other, and spaces.
-fn texts_of_both(before: [u8; 128], first: u64, after: [u8; 128], rest: u64) -> [u8; 128]
-    requires { first + rest ≤ places }
-    ensures { result ≡ (take (32 * first) before ++ take (32 * rest) after) ++ drop (32 * (first + rest))
+// One's texts and then the other's in the places, and spaces.
+fn texts_of_both(before: &[u8], after: &[u8]) -> [u8; 128]
+    requires { length before.now + length after.now ≤ 128 }
+    ensures { result ≡ (before.now ++ after.now) ++ drop (length before.now + length after.now)
         (spaces 128) }
 {
-    let mut text = [32u8; 128];
-    let start = 32 * first;
-    let width = 32 * rest;
-    put(part(&before, 0, start as usize), 0, &mut text);
-    put(part(&after, 0, width as usize), start as usize, &mut text);
+    let mut text = [b' '; 128];
+    put(before, 0, &mut text);
+    put(after, before.len(), &mut text);
     text
 }
 
@@ -41,14 +31,13 @@ fn texts_of_both(before: [u8; 128], first: u64, after: [u8; 128], rest: u64) -> 
 pub fn merge(fixed: Descriptions, own: Descriptions, limit: u64) -> Descriptions
     ensures { result ≡ merged fixed own limit }
 {
-    let most = least_of(limit, Descriptions::PLACES);
-    let first = least_of(fixed.count, most);
-    let rest = least_of(own.count, most - first);
-    let before = fixed.text;
-    let after = own.text;
-    let text = texts_of_both(before, first, after, rest);
-    let count = first + rest;
-    Descriptions { text, count }
+    let most = limit.min(Descriptions::PLACES);
+    let first = fixed.count.min(most);
+    let rest = own.count.min(most - first);
+    Descriptions {
+        text: texts_of_both(fixed.first(first), own.first(rest)),
+        count: first + rest,
+    }
 }
 
 impl Descriptions {
@@ -58,28 +47,27 @@ impl Descriptions {
         ensures { result ≡ no_texts }
     {
         Descriptions {
-            text: [32u8; 128],
+            text: [b' '; 128],
             count: 0,
         }
     }
 
+    // The first so many texts.
+    fn first(&self, count: u64) -> &[u8]
+        requires { count ≤ places }
+        ensures { result.now ≡ take (32 * count) self.now.text }
+    {
+        part(&self.text, 0, 32 * count as usize)
+    }
+
     // One more at the next place: its first 32 characters, filled with spaces. Four stay as they are.
-    pub fn with(self, text: &[u8]) -> Descriptions
+    pub fn with(mut self, text: &[u8]) -> Descriptions
         ensures { result ≡ with_text self text.now }
     {
-        let count = self.count;
-        if count < Descriptions::PLACES {
-            let mut filled = [32u8; 32];
-            put(part(text, 0, 32), 0, &mut filled);
-            let start = 32 * count;
-            let before = self.text;
-            let mut after = before;
-            put(&filled, start as usize, &mut after);
-            let next = count + 1;
-            return Descriptions {
-                text: after,
-                count: next,
-            };
+        if self.count < Descriptions::PLACES {
+            let filled: [u8; 32] = filled_to(text);
+            put(&filled, 32 * self.count as usize, &mut self.text);
+            self.count += 1;
         }
         self
     }

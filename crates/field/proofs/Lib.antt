@@ -10,3 +10,5 @@ pub mod Elevens
 pub mod Rows
 pub mod Putting
 pub mod Spelling
+pub mod Filling
+pub mod FirstLine

@@ -5,5 +5,7 @@ pub mod accounts;
 pub mod arrival;
 pub mod bytes;
 pub mod dates;
+pub mod filled;
+pub mod lines;
 pub mod numbers;
 pub mod texts;

@@ -1,4 +1,3 @@
-pub mod Filling
 pub mod Searching
 pub mod Answering
 pub mod Recorded

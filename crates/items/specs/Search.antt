@@ -1,8 +1,9 @@
 -- HOW THE ANSWER IS FOUND: the search for item k of batch b, each from 1, through a file's lines. What to believe of the answer is said in Promises.antt.
-use Rattle.std.specs.Prelude.{ℕ, ◌-◌, List, [], ◌∷◌, ◌++◌, Bool, true, false, take, drop, eqb, None}
+use Rattle.std.specs.Prelude.{ℕ, ◌-◌, List, Bool, true, false, take, drop, fold, eqb, None}
 use Rattle.machine.specs.Lists.{pick, spaces}
 use Rattle.format.specs.declared.Kind.{Kind}
 use Rattle.format.specs.declared.Kind.TheVariants.{FixedDescription, Transaction, NamePayer, PaymentReference, Description}
+pub use Rattle.field.specs.Filled.{filled_to}
 use Rattle.record.specs.Kinds.{begins, is_name, is_header}
 use Rattle.record.specs.Read.{transaction_for, text_part, values_of}
 use Rattle.record.specs.declared.TransactionFields.{TransactionFields}
@@ -12,10 +13,6 @@ use Rattle.items.specs.declared.Found.{Found}
 use Rattle.items.specs.declared.Search.{Search}
 
 -- ## What is found
-
--- the first n characters, filled with spaces
-abbrev pub filled_to : ℕ → List ℕ → List ℕ
-filled_to n t = take n (t ++ spaces n)
 
 -- 'With a refusal no fields are handed out: numbers are zero, texts spaces'
 abbrev pub no_fields : ItemFields
@@ -106,5 +103,4 @@ after_line s line =
 
 -- lines one after the other
 unfoldable pub after_lines : Search → List (List ℕ) → Search
-after_lines s [] = s
-after_lines s (line ∷ lines) = after_lines (after_line s line) lines
+after_lines s lines = fold after_line s lines

@@ -24,8 +24,10 @@ fn is_found(kind: Option<TransactionType>) -> bool
 fn refused(answer: Answer) -> ItemRead
     ensures { result ≡ answered answer no_fields }
 {
-    let fields = no_fields();
-    ItemRead { answer, fields }
+    ItemRead {
+        answer,
+        fields: no_fields(),
+    }
 }
 
 impl Found {
@@ -33,19 +35,15 @@ impl Found {
     fn is_within(self) -> bool
         ensures { result ≡ is_within self }
     {
-        let fixed = self.fixed;
-        let own = self.own;
-        (fixed.count <= Batch::MAX_FIXED) & (own.count <= format::MAX_DESCRIPTIONS)
+        (self.fixed.count <= Batch::MAX_FIXED) & (self.own.count <= format::MAX_DESCRIPTIONS)
     }
 
     // The fixed descriptions and then the item's own, in four places of 32 characters.
     fn texts(self) -> [u8; 128]
         ensures { result ≡ texts_found self }
     {
-        let fixed = self.fixed;
-        let own = self.own;
-        let merged = merge(fixed, own, format::most_descriptions(self.referred));
-        merged.text
+        let most = format::most_descriptions(self.referred);
+        merge(self.fixed, self.own, most).text
     }
 }
 
@@ -59,19 +57,18 @@ impl Search {
         if file.number != 0 {
             return refused(file);
         }
-        let found = self.found;
-        let fields = found.fields;
-        let kind = fields.kind;
-        if is_found(kind) {
-            if out.len() < 128 {
-                return refused(Answer::refusal(format::NO_ROOM, file.line, 0));
-            }
-            let texts = found.texts();
-            put(&texts, 0, out);
-            let answer = Answer::accepted(file.line);
-            return ItemRead { answer, fields };
+        let fields = self.found.fields;
+        if !is_found(fields.kind) {
+            return refused(Answer::refusal(format::NO_SUCH_ITEM, file.line, 0));
         }
-        refused(Answer::refusal(format::NO_SUCH_ITEM, file.line, 0))
+        if out.len() < 128 {
+            return refused(Answer::refusal(format::NO_ROOM, file.line, 0));
+        }
+        put(&self.found.texts(), 0, out);
+        ItemRead {
+            answer: Answer::accepted(file.line),
+            fields,
+        }
     }
 
     // After all lines of a file, by the file's own answer; 24 where the search handed in has over four descriptions of
@@ -80,12 +77,10 @@ impl Search {
         ensures answer { result ≡ answered_at self file (length out.old) }
         ensures bytes { out.new ≡ room_at self file out.old }
     {
-        let found = self.found;
-        if found.is_within() {
-            self.hand_out(file, out)
-        } else {
-            refused(Answer::refusal(format::BEYOND_LIMITS, 0, 0))
+        if self.found.is_within() {
+            return self.hand_out(file, out);
         }
+        refused(Answer::refusal(format::BEYOND_LIMITS, 0, 0))
     }
 }
 
@@ -96,9 +91,6 @@ pub fn item(file: &[u8], batch: u64, item: u64, out: &mut [u8]) -> ItemRead
     ensures bytes { out.new ≡ room_after file.now batch item out.old }
     ensures meaning { Promised file.now batch item out.old result out.new }
 {
-    let read = file::check(file);
-    let answer = read.answer;
-    let search = Search::start(batch, item);
-    let after = search.lines(file);
-    after.hand_out(answer, out)
+    let answer = file::check(file).answer;
+    Search::start(batch, item).lines(file).hand_out(answer, out)
 }

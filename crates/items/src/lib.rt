@@ -10,7 +10,6 @@ use format::{Answer, TransactionType};
 mod answer;
 mod findings;
 mod steps;
-mod text;
 
 pub use answer::item;
 
@@ -60,7 +59,7 @@ fn no_fields() -> ItemFields
         amount: 0,
         payer: 0,
         beneficiary: 0,
-        reference: [32u8; 16],
-        name: [32u8; 24],
+        reference: [b' '; 16],
+        name: [b' '; 24],
     }
 }

@@ -2,16 +2,16 @@
 use Prim.Native.Nat.{ℕ, ◌+◌, ◌*◌, ◌/◌, ◌≤◌, ◌<◌}
 use mathlib.Core.Path.{◌≡◌, refl, sym, ap, ap₂, ◌∙◌}
 use mathlib.Core.List.{List, [], ◌∷◌, ◌++◌, append_assoc, append-nil}
-use mathlib.Core.Bool.{Bool, true, false}
+use mathlib.Core.Bool.{Bool, true, false, not, cond}
 use native.Mathlib.Omega.{arith}
-use borrow.Author.Rules.{rules}
 use borrow.Author.Tests.{eq-eqb, ne_eqb, le-leb, lt-leb}
 use lib.ListN.{length, take, drop, length-append, take-append-drop}
+use Rattle.std.proofs.lemmas.List.Sums.{sum_by-cons}
 use Rattle.machine.specs.Lists.{pick, pasted, put_in}
 use Rattle.format.specs.Answers.{refusal}
 use Rattle.format.specs.Cutting.{next_line, lines_in}
 use Rattle.format.specs.declared.Answer.{Answer}
-use Rattle.format.proofs.Cutting.{next_fifty, whole_fifty, line_inside, lines_at, lines_none}
+use Rattle.format.proofs.Cutting.{next_fifty, whole_fifty}
 use Rattle.field.proofs.Putting.{put_both, put_fitting, put_long, length_pasted, pasted_both}
 use Rattle.record.specs.Kinds.{is_city}
 use Rattle.reading.specs.Check.{check_of, read_of}
@@ -19,19 +19,11 @@ use Rattle.reading.specs.declared.FileRead.{FileRead}
 use Rattle.reading.specs.declared.State.{State}
 use Rattle.reading.proofs.Runs.{Runs, no_more, line, runs_file}
 use Rattle.writer.specs.Encoding.{line_end}
-use Rattle.rewriting.specs.Cities.{kept_line, kept_of, kept_one, kept_count, without_cities}
+use Rattle.rewriting.specs.Cities.{kept_line, kept_of, kept_count, without_cities}
 use Rattle.rewriting.specs.Rewriting.{answered, rewritten_by, room_by, rewritten_of, room_after}
 use Rattle.rewriting.specs.declared.Rewritten.{Rewritten}
 
 -- ## A line
-
-one_at_most : (line : List ℕ) → kept_one line ≤ 1
-unfolding kept_one pick
-one_at_most l = by (is_city l)
-  where
-    by : (q : Bool) → pick q 0 1 ≤ 1
-    by true = omega arith
-    by false = omega arith
 
 pasted_nothing : (room : List ℕ) (at : ℕ) → pasted room at [] ≡ room
 unfolding pasted
@@ -66,95 +58,65 @@ module _ {q : Bool} (line : List ℕ) (e : q ≡ is_city line) where
 
 pub ruleset line_puts = (nothing_after, nothing_put, line_after, line_put)
 
-kept_none : (file : List ℕ) (i : ℕ) → length file ≤ i → kept_of (lines_in (drop i file)) ≡ []
-unfolding kept_of
-kept_none file i h = ap kept_of (lines_none file i h)
-
--- ## Counting
-
-pub record Counting (file : List ℕ) (n i : ℕ) : Type 0 where
-  pub is : n + kept_count (lines_in (drop i file)) ≡ kept_count (lines_in file)
-  pub small : n ≤ i
-
-pub count_none : (file : List ℕ) → Counting file 0 0
-count_none file = record { is = omega arith; small = omega arith }
-
-module _ {file p : List ℕ} {n m i : ℕ} (c : Counting file n i) (h : i < length file) (e : p ≡ next_line (drop i file)) (d : m ≡ kept_one p) where
-  count_at : kept_count (lines_in (drop i file)) ≡ m + kept_count (lines_in (drop (i + length p) file))
-  unfolding kept_count
-  count_at = ap kept_count (lines_at file i h e) ∙ ap (λ k. k + kept_count (lines_in (drop (i + length p) file))) (sym d)
-
-  pub count_more : Counting file (n + m) (i + length p)
-  count_more = record { is = omega (arith, c.is, count_at); small = omega (arith, c.small, d, one_at_most p, line_inside file i h e) }
-
-  pub count_fits : n + m ≤ length file
-  count_fits = omega (arith, c.small, d, one_at_most p, line_inside file i h e)
-
-pub count_all : {file : List ℕ} {n i : ℕ} → Counting file n i → length file ≤ i → n ≡ kept_count (lines_in file)
-unfolding kept_count
-count_all {file} {n} {i} c h = omega (arith, c.is, ap kept_count (lines_none file i h))
-
-pub ruleset counts = (count_none, count_more, count_all, rules)
-
 -- ## Copying
 
 -- what is written so far, and with what is left all that is to be written
-pub record Copying (file o out : List ℕ) (at i : ℕ) : Type 0 where
+pub record Copying (file o out : List ℕ) (at : ℕ) (rest : List ℕ) : Type 0 where
   pub done : List ℕ
   pub long : length done ≡ at
   pub is : out ≡ pasted o 0 done
-  pub left : done ++ kept_of (lines_in (drop i file)) ≡ without_cities file
+  pub left : done ++ kept_of (lines_in rest) ≡ without_cities file
   pub room : length (without_cities file) ≤ length o
 
-pub copy_none : (file o : List ℕ) → length (without_cities file) ≤ length o → Copying file o o 0 0
+pub copy_none : (file o : List ℕ) → length (without_cities file) ≤ length o → Copying file o o 0 file
 unfolding without_cities pasted
 copy_none file o h = record { done = []; long = refl; is = refl; left = refl; room = h }
 
-module _ {file o out : List ℕ} {at i : ℕ} (c : Copying file o out at i) where
-  done_in : at + length (kept_of (lines_in (drop i file))) ≤ length o
-  done_in = omega (arith, c.long, c.room, sym (length-append c.done (kept_of (lines_in (drop i file)))) ∙ ap length c.left)
+module _ {file o out rest : List ℕ} {at : ℕ} (c : Copying file o out at rest) where
+  done_in : at + length (kept_of (lines_in rest)) ≤ length o
+  done_in = omega (arith, c.long, c.room, sym (length-append c.done (kept_of (lines_in rest))) ∙ ap length c.left)
 
   pub copy_kept : length out ≡ length o
   copy_kept = ap length c.is ∙ length_pasted o 0 c.done (omega (arith, c.long, done_in))
 
-  pub copy_all : length file ≤ i → out ≡ pasted o 0 (without_cities file)
-  copy_all h = c.is ∙ ap (pasted o 0) (sym (append-nil c.done) ∙ ap (λ r. c.done ++ r) (sym (kept_none file i h)) ∙ c.left)
+  pub copy_all : lines_in rest ≡ [] → out ≡ pasted o 0 (without_cities file)
+  unfolding kept_of
+  copy_all e = c.is ∙ ap (pasted o 0) (sym (append-nil c.done) ∙ ap (λ l. c.done ++ kept_of l) (sym e) ∙ c.left)
 
-  -- the line at a place of the file
-  module _ {p : List ℕ} (h : i < length file) (e : p ≡ next_line (drop i file)) where
-    kept_at : kept_of (lines_in (drop i file)) ≡ kept_line p ++ kept_of (lines_in (drop (i + length p) file))
+  -- the next line, and the bytes after it
+  module _ {p : List ℕ} (after : List ℕ) (e : lines_in rest ≡ p ∷ lines_in after) where
+    kept_next : kept_of (lines_in rest) ≡ kept_line p ++ kept_of (lines_in after)
     unfolding kept_of
-    kept_at = ap kept_of (lines_at file i h e)
+    kept_next = ap kept_of e
 
     pub copy_room : at + length (kept_line p) ≤ length out
-    copy_room = omega (arith, done_in, copy_kept, ap length kept_at ∙ length-append (kept_line p) (kept_of (lines_in (drop (i + length p) file))))
+    copy_room = omega (arith, done_in, copy_kept, ap length kept_next ∙ length-append (kept_line p) (kept_of (lines_in after)))
 
-    pub copy_more : {next : ℕ} {out' : List ℕ} → next ≡ at + length (kept_line p) → out' ≡ pasted out at (kept_line p) → Copying file o out' next (i + length p)
+    pub copy_more : {next : ℕ} {out' : List ℕ} → next ≡ at + length (kept_line p) → out' ≡ pasted out at (kept_line p) → Copying file o out' next after
     copy_more n q =
         let z : 0 + length c.done ≡ at = omega (arith, c.long) in
         record {
           done = c.done ++ kept_line p;
           long = length-append c.done (kept_line p) ∙ ap (λ m. m + length (kept_line p)) c.long ∙ sym n;
           is = q ∙ ap₂ (λ x m. pasted x m (kept_line p)) c.is (sym z) ∙ pasted_both o 0 c.done (kept_line p) (omega (arith, c.long, done_in));
-          left = append_assoc c.done (kept_line p) (kept_of (lines_in (drop (i + length p) file))) ∙ ap (λ x. c.done ++ x) (sym kept_at) ∙ c.left;
+          left = append_assoc c.done (kept_line p) (kept_of (lines_in after)) ∙ ap (λ x. c.done ++ x) (sym kept_next) ∙ c.left;
           room = c.room;
         }
 
-pub ruleset copies = (copy_none, copy_kept, copy_all, copy_more, rules)
-
 -- ## Of an accepted file each line that is kept has 52 bytes
 
-kept_52 : (xs : List ℕ) → length (take 50 (next_line xs)) ≡ 50 → (q : Bool) → length (pick q [] (take 50 (next_line xs) ++ line_end)) ≡ pick q 0 1 * 52
+kept_52 : (xs : List ℕ) → length (take 50 (next_line xs)) ≡ 50 → (q : Bool) → length (pick q [] (take 50 (next_line xs) ++ line_end)) ≡ cond (not q) 1 0 * 52
 unfolding pick
 kept_52 xs h true = refl
 kept_52 xs h false = length-append (take 50 (next_line xs)) line_end ∙ omega (arith, h)
 
 kept_long : {s u : State} {xs : List ℕ} {lines : List (List ℕ)} → Runs s xs lines u → length (kept_of lines) ≡ kept_count lines * 52
-unfolding kept_of kept_line kept_count kept_one
+unfolding kept_of kept_line
 kept_long no_more = refl
 kept_long (line {s = s} {x = x} {xs} {lines} t r) =
     let k = kept_52 (x ∷ xs) (ap length (next_fifty (x ∷ xs)) ∙ whole_fifty s.before.ending (x ∷ xs) t.whole) (is_city (next_line (x ∷ xs))) in
-    length-append (kept_line (next_line (x ∷ xs))) (kept_of lines) ∙ omega (arith, k, kept_long r)
+    let n = sum_by-cons (λ l. cond (not (is_city l)) 1 0) (next_line (x ∷ xs)) lines in
+    length-append (kept_line (next_line (x ∷ xs))) (kept_of lines) ∙ omega (arith, k, kept_long r, n)
 
 pub kept_size : {n : ℕ} (file : List ℕ) → (check_of file).number ≡ 0 → n ≡ kept_count (lines_in file) → n * 52 ≡ length (without_cities file)
 unfolding without_cities
@@ -201,7 +163,3 @@ module _ {r : FileRead} {o : List ℕ} (file out : List ℕ) (e : r ≡ read_of 
 
   pub room_filled : {n : ℕ} → r.answer.number ≡ 0 → n ≡ kept_count (lines_in file) → n ≤ length out / 52 → o ≡ pasted out 0 (without_cities file) → o ≡ room_after file out
   room_filled z f l h = accepted_room z (put_fitting out 0 (without_cities file) (omega arith) (omega (arith, size file (length out) e z f)) h)
-
--- what is said to be written fits
-pub written_fits : {n room : ℕ} → n ≤ room / 52 → n * 52 ≤ room
-written_fits l = omega arith

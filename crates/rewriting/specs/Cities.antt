@@ -1,5 +1,5 @@
 -- A file without its city records, its lines ended as the writer ends them.
-use Rattle.std.specs.Prelude.{ℕ, ◌+◌, List, [], ◌∷◌, ◌++◌, take}
+use Rattle.std.specs.Prelude.{ℕ, List, [], ◌∷◌, ◌++◌, not, count_by, take}
 use Rattle.machine.specs.Lists.{pick}
 use Rattle.format.specs.Cutting.{lines_in}
 use Rattle.record.specs.Kinds.{is_city}
@@ -15,12 +15,8 @@ kept_of [] = []
 kept_of (line ∷ lines) = kept_line line ++ kept_of lines
 
 -- and how many these are
-unfoldable pub kept_one : List ℕ → ℕ
-kept_one line = pick (is_city line) 0 1
-
-unfoldable pub kept_count : List (List ℕ) → ℕ
-kept_count [] = 0
-kept_count (line ∷ lines) = kept_one line + kept_count lines
+abbrev pub kept_count : List (List ℕ) → ℕ
+kept_count lines = count_by (λ line. not (is_city line)) lines
 
 -- THE BYTES WRITTEN: the file's own lines without those of cities, in their order, each ended by 13, 10
 unfoldable pub without_cities : List ℕ → List ℕ

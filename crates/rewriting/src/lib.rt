@@ -7,11 +7,12 @@
 ghost use Rattle.std.specs.Prelude.{◌≡◌, ◌+◌, ◌≤◌, length};
 ghost use Rattle.machine.specs.Lists.{pasted};
 ghost use Rattle.format.specs.Cutting.{lines_in};
-ghost use Rattle.rewriting.specs.Cities.{kept_line, kept_one, kept_count, without_cities};
+ghost use Rattle.rewriting.specs.Cities.{kept_line, kept_count, without_cities};
 ghost use Rattle.rewriting.specs.Promises.{Promised};
 ghost use Rattle.rewriting.specs.Rewriting.{rewritten_of, room_after};
 
-use field::bytes::{next_line, part, put};
+use field::bytes::{part, put};
+use field::lines::lines_in;
 use format::{Answer, codes};
 use record::kinds::is_city;
 
@@ -22,28 +23,11 @@ pub struct Rewritten {
     pub written: usize,
 }
 
-// One line, or none of a city's.
-fn counted(line: &[u8]) -> usize
-    ensures { result ≡ kept_one line.now }
-{
-    if is_city(line) {
-        return 0;
-    }
-    1
-}
-
 // How many lines of a file are no city's.
 fn count(file: &[u8]) -> usize
     ensures { result ≡ kept_count (lines_in file.now) }
 {
-    let mut n: usize = 0;
-    let mut i: usize = 0;
-    while i < file.len() {
-        let line = next_line(file, i);
-        n += counted(line);
-        i += line.len();
-    }
-    n
+    lines_in(file).filter(|line| !is_city(line)).count()
 }
 
 // A line from an offset on with the writer's end, or nothing of a city's: where the next one goes.
@@ -68,11 +52,8 @@ fn copy(file: &[u8], out: &mut [u8])
     ensures { out.new ≡ pasted out.old 0 (without_cities file.now) }
 {
     let mut at: usize = 0;
-    let mut i: usize = 0;
-    while i < file.len() {
-        let line = next_line(file, i);
+    for line in lines_in(file) {
         at = put_line(line, at, out);
-        i += line.len();
     }
 }
 
@@ -82,24 +63,20 @@ pub fn rewrite(file: &[u8], out: &mut [u8]) -> Rewritten
     ensures bytes { out.new ≡ room_after file.now out.old }
     ensures again { Promised file.now result out.new }
 {
-    let read = file::check(file);
-    let a = read.answer;
-    if a.number != 0 {
-        return Rewritten {
-            answer: a,
-            written: 0,
-        };
+    let answer = file::check(file).answer;
+    if answer.number != 0 {
+        return Rewritten { answer, written: 0 };
     }
     let n = count(file);
     if out.len() / writer::LINE < n {
         return Rewritten {
-            answer: Answer::refusal(format::NO_ROOM, a.line, 0),
+            answer: Answer::refusal(format::NO_ROOM, answer.line, 0),
             written: 0,
         };
     }
     copy(file, out);
     Rewritten {
-        answer: a,
+        answer,
         written: n * writer::LINE,
     }
 }

@@ -1,19 +1,14 @@
--- What count ensures and its loop keeps, by the laws of format's Cutting and Copying.
-use borrow.Author.Rules.{rules}
-use Rattle.format.proofs.Cutting.{line_less}
-use Rattle.rewriting.proofs.Copying.{counts, count_fits}
+-- What count ensures: of the lines of a file those that its test lets through, counted.
+use Rattle.std.proofs.Common.{ap, not, rules, ◌∙◌}
+use Rattle.std.proofs.lemmas.Iterator.Consumers.{YieldsList-from_first, YieldsList-from_filter, YieldsList-at, count_from_yields_List}
+use Rattle.std.proofs.lemmas.List.Sums.{length-filter}
+use Rattle.format.specs.Cutting.{lines_in}
+use Rattle.record.specs.Kinds.{is_city}
 use Rattle.rewriting.proofs.count.Goals as goal
 
-pub overflow_add-n : goal.overflow_add-n
-overflow_add-n c =
-    let fits = count_fits c.loop-i.invariant c.loop-i-test.true c.next_line-line.ensures c.counted-n.ensures in
-    search rules
-
-pub loop-i-smaller : goal.loop-i-smaller
-loop-i-smaller c = search line_less
-
-pub loop-i-preserved : goal.loop-i-preserved
-loop-i-preserved c = search counts depth 20 fits 10000
-
 pub returns : goal.returns
-returns c = search counts depth 20 fits 10000
+returns c =
+    let lines = lines_in c.args.file.now in
+    let given = YieldsList-at c.filter.ensures.source (YieldsList-from_first (λ x. x.now) (λ s. lines_in s.rest.now) lines (ap lines_in c.lines_in.ensures)) in
+    let kept = YieldsList-from_filter _ (λ line. not (is_city line)) given c.filter.ensures.closure (λ x b q k. search rules depth 2) in
+    count_from_yields_List c.filter.result c.count.result c.count.ensures.ran kept ∙ length-filter (λ line. not (is_city line)) lines
