@@ -8,8 +8,8 @@ ghost use Rattle.writer.specs.Promises.{ReadsBack, WritesAgain, RefusesUnfit};
 ghost use Rattle.writer.specs.Writing.{written_by, room_by, written_of, room_of};
 
 use field::bytes::put;
+use fields::Line;
 use format::{Answer, Group};
-use lines::entry_line;
 use reading::State;
 use record::Transaction;
 
@@ -56,13 +56,12 @@ pub struct Written {
 }
 
 // A line that the reader accepts is written where there is room.
-fn write_line(state: State, line: [u8; 52], out: &mut [u8]) -> Written
-    ensures answer { result ≡ written_by state (length out.old) (step_at state line) }
-    ensures bytes { out.new ≡ room_by (step_at state line) line out.old }
+fn write_line(state: State, line: Line, out: &mut [u8]) -> Written
+    ensures answer { result ≡ written_by state (length out.old) (step_at state line.bytes) }
+    ensures bytes { out.new ≡ room_by (step_at state line.bytes) line.bytes out.old }
 {
-    let r = state.line(&line);
+    let r = state.line(&line.bytes);
     let answer = r.answer;
-    let next = r.next;
     if answer.number != 0 {
         return Written {
             answer,
@@ -75,8 +74,11 @@ fn write_line(state: State, line: [u8; 52], out: &mut [u8]) -> Written
             next: state,
         };
     }
-    put(&line, 0, out);
-    Written { answer, next }
+    put(&line.bytes, 0, out);
+    Written {
+        answer,
+        next: r.next,
+    }
 }
 
 // Writes one record after those so far: its answer, and the state after it.
@@ -87,5 +89,5 @@ pub fn write(state: State, entry: Entry, text: [u8; 35], out: &mut [u8]) -> Writ
     ensures written_again { WritesAgain state entry text (length out.old) result out.new }
     ensures unfit { RefusesUnfit state entry text result }
 {
-    write_line(state, entry_line(state, entry, text), out)
+    write_line(state, entry.line(state, text), out)
 }
