@@ -98,16 +98,13 @@ fn put_entry(before: Copied, entry: Entry, text: [u8; 35], page: &mut [u8]) -> C
     if page.len() < at {
         return copied;
     }
-    let state = before.writer;
-    let w = writer::write(state, entry, text, &mut page[at..]);
-    let answer = w.answer;
-    if answer.number != 0 {
-        copied.answer = answer;
-        return copied;
+    match writer::write(before.writer, entry, text, &mut page[at..]) {
+        Ok(next) => {
+            copied.writer = next;
+            copied.at = at + writer::LINE;
+        }
+        Err(answer) => copied.answer = answer,
     }
-    let next = w.next;
-    copied.writer = next;
-    copied.at = at + writer::LINE;
     copied
 }
 

@@ -45,6 +45,7 @@ use Rattle.writer.specs.declared.Entry.TheVariants.{FileHeader, BatchHeader, Fix
 use Rattle.writer.proofs.Building.{spaces_split, number_long, text_long, digits_beyond, digits_long, blank_long, group_long, type_long, test_long}
 use Rattle.record.proofs.Coding.{one_kind}
 use Rattle.writer.proofs.Accepting.{Accepted, read_as, accepts, accepted_body}
+use Rattle.reading.proofs.Verdicts.{next_line_lem}
 
 -- ## What a field carries
 
@@ -294,6 +295,11 @@ module _ (s : State) (e : Entry) (t : List ℕ) (h : length t ≡ 35) where
       let y = ap (text_for (kind_of e)) b.0 ∙ text_back_is s t e h b.1 in
       a.step ∙ ap (λ m. read_as s (cut_of (line_for s e t)) m (fields_of m (take 50 (line_for s e t)))) q ∙ ap (λ c. read_as s c (kind_of e) x) (line_cut crlf (line_for s e t) is_line)
       ∙ ap₂ (λ i j. record { answer = acceptance (s.line + 1); next = with_ending CrLf (next_for s (kind_of e) x); bytes = 52; read = i; text = j }) r y
+
+  pub read_line : (step_at s (line_for s e t)).answer.number ≡ 0 → (step_at s (line_for s e t)).next.line ≡ s.line + 1
+  read_line z =
+      let a = accepts s (line_for s e t) (omega (arith, line_52)) z in
+      ap (λ (r : LineRead). r.next.line) (of_accepted a (one_kind a.kind (kind_of e) a.coded front_code)) ∙ next_line_lem s (kind_of e) _
 
   pub read_back : (step_at s (line_for s e t)).answer.number ≡ 0 → step_at s (line_for s e t) ≡ record { answer = acceptance (s.line + 1); next = (step_at s (line_for s e t)).next; bytes = 52; read = record_of s e; text = t }
   read_back z =

@@ -2,11 +2,11 @@
 use Rattle.writer.proofs.Pasting.{by_refusal, by_room, by_acceptance, room_refused, room_small, room_filled}
 use Rattle.writer.proofs.write_line.Goals as goal
 
-pub returns-then-answer-ne0-clause-answer : goal.returns-then-answer-ne0-clause-answer
-returns-then-answer-ne0-clause-answer c = search by_refusal depth 2
+pub returns-then-r-ne0-clause-answer : goal.returns-then-r-ne0-clause-answer
+returns-then-r-ne0-clause-answer c = search by_refusal depth 2
 
-pub returns-then-answer-ne0-clause-bytes : goal.returns-then-answer-ne0-clause-bytes
-returns-then-answer-ne0-clause-bytes c = search room_refused depth 2
+pub returns-then-r-ne0-clause-bytes : goal.returns-then-r-ne0-clause-bytes
+returns-then-r-ne0-clause-bytes c = search room_refused depth 2
 
 pub returns-then-out-lt-LINE-clause-answer : goal.returns-then-out-lt-LINE-clause-answer
 returns-then-out-lt-LINE-clause-answer c = search by_room depth 2
