@@ -5,7 +5,7 @@ use mathlib.Core.List.{List, [], ◌∷◌, ◌++◌, append_assoc}
 use mathlib.Core.Bool.{Bool, true, false, not, ◌&&◌, ◌||◌}
 use native.Mathlib.Omega.{arith}
 use borrow.Author.Tests.{not-false, ltb-true, lt-leb}
-use lib.ListN.{length, take, drop, take-append-drop, length-append, length-drop, length-replicate}
+use lib.ListN.{length, take, drop, take-append-drop, length-append, length-drop}
 use lib.Seq.{take_at, drop_at, take_all, length-take-le}
 use lib.Dec.{T, leb, ltb}
 use Rattle.machine.specs.Lists.{pick, all, same, is_digit, is_space, spaces}
@@ -42,7 +42,8 @@ use Rattle.writer.specs.Entries.{digits_for, kind_of, given_for, line_for}
 use Rattle.writer.specs.Promises.{record_of, is_text_fit, is_unfit}
 use Rattle.writer.specs.declared.Entry.{Entry}
 use Rattle.writer.specs.declared.Entry.TheVariants.{FileHeader, BatchHeader, FixedDescription, OrderingParty, Transaction, NamePayer, PaymentReference, Description, NameBeneficiary, BatchTrailer, FileTrailer}
-use Rattle.writer.proofs.Building.{spaces_split, number_long, text_long, digits_beyond, digits_long, blank_long, group_long, type_long, test_long}
+use Rattle.std.proofs.lemmas.List.{drop-replicate}
+use Rattle.writer.proofs.Building.{number_long, text_long, digits_beyond, digits_long, blank_long, group_long, type_long, test_long}
 use Rattle.record.proofs.Coding.{one_kind}
 use Rattle.writer.proofs.Accepting.{Accepted, read_as, accepts, accepted_body}
 use Rattle.reading.proofs.Verdicts.{next_line_lem}
@@ -227,9 +228,7 @@ record_back s t FileTrailer f = refl
 pub padded_is : (w : ℕ) (t : List ℕ) → length t ≡ w → w ≤ 35 → padded t ≡ t ++ spaces (35 - w)
 unfolding padded
 padded_is w t h k =
-    let z : 35 ≡ w + (35 - w) = omega arith in
-    let d : drop w (spaces 35) ≡ spaces (35 - w) = ap (λ n. drop w (spaces n)) z ∙ ap (drop w) (spaces_split w (35 - w)) ∙ drop_at (spaces w) (spaces (35 - w)) w (length-replicate w 32) in
-    put_front no_text t (omega arith) refl ∙ ap (λ n. t ++ drop n no_text) h ∙ ap (λ r. t ++ r) d
+    put_front no_text t (omega arith) refl ∙ ap (λ n. t ++ drop n no_text) h ∙ ap (λ r. t ++ r) (drop-replicate w 35 32)
 
 text_all : (w : ℕ) (t : List ℕ) → length t ≡ 35 → w ≤ 35 → not (is_text_fit w t) ≡ false → padded (take w t) ≡ t
 text_all w t h k u =

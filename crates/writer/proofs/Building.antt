@@ -1,9 +1,10 @@
 -- A line, field after field. Assumes nothing.
-use Prim.Native.Nat.{ℕ, zero, suc, ◌+◌, ◌-◌, ◌≤◌, ◌<◌}
+use Prim.Native.Nat.{ℕ, ◌+◌, ◌-◌, ◌≤◌, ◌<◌}
 use mathlib.Core.Path.{◌≡◌, refl, sym, ◌∙◌, ap, ap₂, subst}
 use mathlib.Core.List.{List, [], ◌∷◌, ◌++◌, append_assoc, append-nil}
 use mathlib.Core.Bool.{Bool, true, false, ◌&&◌}
 use native.Mathlib.Omega.{arith}
+use Rattle.std.proofs.lemmas.List.{replicate-append-replicate}
 use lib.ListN.{length, take, drop, length-append, length-replicate, drop_of_length-le}
 use lib.Seq.{take_all, take_at, drop_at, drop-append-add, length-take-le}
 use borrow.Author.Tests.{ne_eqb, leb-true}
@@ -114,12 +115,8 @@ test_long false = refl
 
 -- ## Field after field: what is written so far, then spaces and the end
 
-pub spaces_split : (w n : ℕ) → spaces (w + n) ≡ spaces w ++ spaces n
-spaces_split zero n = let q : 0 + n ≡ n = omega arith in ap spaces q
-spaces_split (suc w) n = let q : suc w + n ≡ suc (w + n) = omega arith in ap spaces q ∙ ap (λ t. 32 ∷ t) (spaces_split w n)
-
 split_end : (w n : ℕ) → spaces (w + n) ++ line_end ≡ spaces w ++ (spaces n ++ line_end)
-split_end w n = ap (λ t. t ++ line_end) (spaces_split w n) ∙ append_assoc (spaces w) (spaces n) line_end
+split_end w n = ap (λ t. t ++ line_end) (sym (replicate-append-replicate w n 32)) ∙ append_assoc (spaces w) (spaces n) line_end
 
 record Built (l d : List ℕ) (a n : ℕ) : Type 0 where
   is : l ≡ d ++ (spaces n ++ line_end)
