@@ -24,7 +24,7 @@ use Rattle.reading.specs.Step.{with_ending, step_at}
 use Rattle.reading.specs.declared.State.{State}
 use Rattle.reading.specs.declared.LineRead.{LineRead}
 use Rattle.writer.specs.Entries.{line_for}
-use Rattle.writer.specs.Writing.{written_by, room_by, written_of, room_of}
+use Rattle.writer.specs.Writing.{answer_of, written_by, room_by, written_of, room_of}
 use Rattle.writer.specs.Promises.{record_of, entry_of, ReadsBack, WritesAgain}
 use Rattle.writer.specs.declared.Entry.{Entry}
 use Rattle.writer.specs.declared.Entry.TheVariants.{FileHeader, BatchHeader, FixedDescription, OrderingParty, Transaction, NamePayer, PaymentReference, Description, NameBeneficiary, BatchTrailer, FileTrailer}
@@ -133,10 +133,17 @@ module _ (s : State) (e : Entry) (t : List ℕ) (h : length t ≡ 35) where
       let l = line_for s e t in
       let m = line_is o y xs z q p in
       let r = step_again o y xs z q p in
-      let a : eqb (step_at s l).answer.number 0 ≡ true = eq-eqb (step_at s l).answer.number 0 (ap (λ (v : Answer). v.number) r.0 ∙ z) in
+      let k = ap (λ (v : Answer). v.number) r.0 ∙ z in
+      let a : eqb (step_at s l).answer.number 0 ≡ true = eq-eqb (step_at s l).answer.number 0 k in
       let b = le-leb 52 (length out) n in
+      let w = taken (step_at s l) (length out) a b in
       let f = ap (take 52) (filled (step_at s l) l out a b) ∙ take_at l (drop 52 out) 52 (line_52 s e t h) ∙ sym m in
-      record { same_answer = taken (step_at s l) (length out) a b ∙ rw r.1 refl; same_characters = f; same_bytes = λ c. f ∙ sym (same_line o y xs z q p c) }
+      record {
+        same_answer = ap answer_of w ∙ ap (λ m. acceptance m) (read_line s e t h k) ∙ sym (ap (λ (v : LineRead). v.answer) (read_back s e t h k)) ∙ r.0;
+        same_state = w ∙ rw r.1 refl;
+        same_characters = f;
+        same_bytes = λ c. f ∙ sym (same_line o y xs z q p c);
+      }
 
 -- of the function's own result
 module _ {l o : List ℕ} {w : Result State Answer} (s : State) (e : Entry) (t out : List ℕ) (p : l ≡ line_for s e t) (a : w ≡ written_by (length out) (step_at s l)) (b : o ≡ room_by (step_at s l) l out) where

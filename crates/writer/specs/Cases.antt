@@ -17,7 +17,7 @@ use Rattle.reading.specs.declared.Name.TheVariants.{Unwanted, Due}
 use Rattle.reading.specs.declared.State.{State}
 use Rattle.writer.specs.Encoding.{line_end}
 use Rattle.writer.specs.Entries.{line_for}
-use Rattle.writer.specs.Writing.{written_of}
+use Rattle.writer.specs.Writing.{answer_of, written_of}
 use Rattle.writer.specs.declared.Entry.{Entry}
 use Rattle.writer.specs.declared.Entry.TheVariants.{FileHeader, BatchHeader, Transaction, PaymentReference, NameBeneficiary, BatchTrailer, FileTrailer}
 
@@ -45,11 +45,6 @@ salary_of amount = Transaction (record { kind = Salary; amount = amount; payer =
 
 abbrev pub unchecked_to : ℕ → Entry
 unchecked_to beneficiary = Transaction (record { kind = UncheckedCreditor; amount = 1; payer = 123456789; beneficiary = beneficiary })
-
--- what is answered: of an accepted record the line that it is
-abbrev pub answer_of : Result State Answer → Answer
-answer_of (Ok next) = acceptance next.line
-answer_of (Err a) = a
 
 -- the state after it
 abbrev pub after : State → Result State Answer → State

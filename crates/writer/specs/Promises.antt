@@ -17,6 +17,7 @@ use Rattle.reading.specs.declared.State.{State}
 use Rattle.reading.specs.declared.LineRead.{LineRead}
 use Rattle.writer.specs.Encoding.{Given, Givens, line_end}
 use Rattle.writer.specs.Entries.{kind_of, given_for}
+use Rattle.writer.specs.Writing.{answer_of}
 use Rattle.writer.specs.declared.Entry.{Entry}
 use Rattle.writer.specs.declared.Entry.TheVariants.{FileHeader, BatchHeader, FixedDescription, OrderingParty, Transaction, NamePayer, PaymentReference, Description, NameBeneficiary, BatchTrailer, FileTrailer}
 
@@ -56,9 +57,10 @@ pub record ReadAsWritten (s : State) (e : Entry) (t : List ℕ) (next : State) (
   pub next_line : next.line ≡ s.line + 1
   pub same_record : (rest : List ℕ) → step_at s (take 52 out ++ rest) ≡ record { answer = acceptance next.line; next = next; bytes = 52; read = record_of s e; text = t }
 
--- accepted, with the same next state but for the ending that the writer fixes, and the same characters with the writer's end
+-- the same answer and next state, but for the ending that the writer fixes, and the same characters with the writer's end
 pub record WrittenAsRead (r : LineRead) (xs : List ℕ) (w : Result State Answer) (out : List ℕ) : Type 0 where
-  pub same_answer : w ≡ Ok (with_ending CrLf r.next)
+  pub same_answer : answer_of w ≡ r.answer
+  pub same_state : w ≡ Ok (with_ending CrLf r.next)
   pub same_characters : take 52 out ≡ take 50 xs ++ line_end
   -- of a line that ends with 13 and 10: the same bytes
   pub same_bytes : (cut_of xs).ending ≡ CrLf → take 52 out ≡ next_line xs

@@ -1,13 +1,18 @@
 -- What a record to write is answered, and the lent room after it.
 use Rattle.std.specs.Prelude.{ℕ, List, ◌++◌, length, drop, leb, eqb, Result, Ok, Err}
 use Rattle.machine.specs.Lists.{pick}
-use Rattle.format.specs.Answers.{accepted, no_room, refusal}
+use Rattle.format.specs.Answers.{accepted, no_room, refusal, acceptance}
 use Rattle.format.specs.declared.Answer.{Answer}
 use Rattle.reading.specs.Step.{step_at}
 use Rattle.reading.specs.declared.State.{State}
 use Rattle.reading.specs.declared.LineRead.{LineRead}
 use Rattle.writer.specs.Entries.{line_for}
 use Rattle.writer.specs.declared.Entry.{Entry}
+
+-- the answer that the reader gives: an accepted record's line
+abbrev pub answer_of : Result State Answer → Answer
+answer_of (Ok next) = acceptance next.line
+answer_of (Err a) = a
 
 -- by what the reader says of the line, the next state or a refusal: 'It refuses with the number, line and column the reader would give on that line'; '12 comes last and only where nothing else applies'; 'A refusal leaves state and buffer untouched', so it hands out no state
 abbrev pub written_by : ℕ → LineRead → Result State Answer
