@@ -2,33 +2,21 @@
 ghost use Rattle.std.specs.Prelude.{◌≡◌, [], ◌≤◌, length};
 ghost use Rattle.items.specs.Answering.{item_of};
 ghost use Rattle.items.specs.Promises.{Promised};
-ghost use Rattle.clieop_c.specs.Returned.{packed, type_number, number_of, item_asked, numbers_with, texts_with};
+ghost use Rattle.clieop_c.specs.Returned.{packed, type_number, item_asked, numbers_with, texts_with};
 ghost use Rattle.clieop_c.specs.Returned.{fields_back, item_numbers, item_texts, Held, item_found, ItemPromised};
 
 use crate::pack;
 use field::bytes::put;
-use format::{TransactionType, TypeRead};
+use format::TypeRead;
 use items::{ItemFields, ItemRead};
 
+// A type as a number, 0 where there is none.
 #[tactic(auto, unfolding(crate::specs::Returned::number_of, machine::specs::Digits::value_after))]
-fn number_of(kind: TransactionType) -> u64
-    ensures { result ≡ number_of kind }
-{
-    match kind {
-        TransactionType::UncheckedCreditor => 0,
-        TransactionType::UncheckedSalary => 3,
-        TransactionType::Creditor => 5,
-        TransactionType::Salary => 8,
-        TransactionType::Debit => 1001,
-        TransactionType::UncheckedDebit => 1002,
-    }
-}
-
 fn type_number(kind: TypeRead) -> u64
     ensures { result ≡ type_number kind }
 {
     match kind {
-        TypeRead::Of(y) => number_of(y),
+        TypeRead::Of(y) => y as u64,
         TypeRead::NoType => 0,
     }
 }

@@ -39,12 +39,12 @@ pub enum Group {
 // 0000, 0003, 0005, 0008 of group 00; 1001, 1002 of group 10.
 #[derive(Clone, Copy)]
 pub enum TransactionType {
-    UncheckedCreditor,
-    UncheckedSalary,
-    Creditor,
-    Salary,
-    Debit,
-    UncheckedDebit,
+    UncheckedCreditor = 0,
+    UncheckedSalary = 3,
+    Creditor = 5,
+    Salary = 8,
+    Debit = 1001,
+    UncheckedDebit = 1002,
 }
 
 // What the four characters of a type stand for.
