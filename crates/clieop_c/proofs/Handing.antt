@@ -4,11 +4,11 @@ use Prim.Native.Nat.{ℕ, ◌+◌, ◌≤◌, ◌<◌}
 use mathlib.Core.Path.{◌≡◌, refl, sym, ap, ap₂, subst, ◌∙◌}
 use mathlib.Core.List.{List, [], ◌∷◌, ◌++◌, append-nil, append_assoc}
 use mathlib.Core.Bool.{Bool, true, false}
+use mathlib.Core.Logic.{◌⊎◌, inl, inr}
 use mathlib.Core.Option.{Option, none, some}
 use native.Mathlib.Omega.{arith}
-use borrow.Author.Rules.{rules}
 use borrow.Author.Tests.{eq-eqb, ne_eqb, eqb-false, le-leb, lt-leb}
-use lib.ListN.{length, set, take, drop, length-set, length-append, length-drop, drop_of_length-le}
+use lib.ListN.{length, take, drop, length-append, length-drop, drop_of_length-le}
 use lib.Seq.{take_at, drop_at, drop-drop, length-take-le}
 use lib.Dec.{leb, eqb}
 use Rattle.machine.specs.Lists.{pick, same, pasted, put_in}
@@ -21,19 +21,15 @@ use Rattle.format.specs.declared.TransactionType.{TransactionType}
 use Rattle.format.specs.declared.TransactionType.TheVariants.{UncheckedCreditor, UncheckedSalary, Creditor, Salary, Debit, UncheckedDebit}
 use Rattle.field.proofs.Putting.{put_fits, length_pasted, pasted_both}
 use Rattle.reading.specs.Check.{check_of}
-use Rattle.record.proofs.Typing.{of_case}
 use Rattle.items.specs.Search.{no_fields, started, after_lines}
 use Rattle.items.specs.Answering.{answered, answered_by, room_by, item_of, room_after}
 use Rattle.items.specs.Promises.{Promised, ItemAt, handed_out, room_with, texts_for, item_at}
 use Rattle.items.specs.declared.ItemFields.{ItemFields}
 use Rattle.items.specs.declared.ItemRead.{ItemRead}
-use Rattle.clieop_c.specs.Returned.{packed, unpacked, number_of, type_number, item_asked, numbers_with, texts_with, item_numbers, texts_by, item_texts, fields_with, fields_back, Held, fields_in, item_by, item_found, described_room, ItemPromised}
+use Rattle.clieop_c.specs.Returned.{unpacked, number_of, type_number, item_asked, numbers_with, texts_with, item_numbers, texts_by, item_texts, fields_with, fields_back, Held, fields_in, item_by, item_found, described_room, ItemPromised}
 use Rattle.clieop_c.proofs.Packing.{check_line}
 
 -- ## The type
-
-pub type_of_lem : {k : TypeRead} {y : TransactionType} {x : ℕ} → k ≡ Some y → x ≡ number_of y → x ≡ type_number k
-type_of_lem e h = of_case type_number e h
 
 -- its number is read back
 number_read : (y : TransactionType) → type_of (decimal 4 (number_of y)) ≡ Some y
@@ -51,26 +47,9 @@ type_read None h = absurd (let z : ◌≡◌ {A = ℕ} 0 1 = cc in omega arith)
 
 -- ## Numbers
 
-four_put : (a b c d : ℕ) (l : List ℕ) → 4 ≤ length l → set (set (set (set l 0 a) 1 b) 2 c) 3 d ≡ a ∷ b ∷ c ∷ d ∷ drop 4 l
-four_put a b c d [] h = absurd (omega arith)
-four_put a b c d (x ∷ []) h = absurd (omega arith)
-four_put a b c d (x ∷ y ∷ []) h = absurd (omega arith)
-four_put a b c d (x ∷ y ∷ z ∷ []) h = absurd (omega arith)
-four_put a b c d (x ∷ y ∷ z ∷ w ∷ l) h = refl
-
-pub second_in : (l : List ℕ) (a : ℕ) → 4 ≤ length l → 1 < length (set l 0 a)
-second_in l a h = rw length-set (omega arith)
-
-pub third_in : (l : List ℕ) (a b : ℕ) → 4 ≤ length l → 2 < length (set (set l 0 a) 1 b)
-third_in l a b h = rw (length-set, length-set) (omega arith)
-
-pub numbers_put : {kind : ℕ} (f : ItemFields) (numbers : List ℕ) → 4 ≤ length numbers → kind ≡ type_number f.kind
-    → set (set (set (set numbers 0 kind) 1 f.amount) 2 f.payer) 3 f.beneficiary ≡ numbers_with f numbers
+pub numbers_put : {kind : ℕ} {o : List ℕ} (f : ItemFields) (numbers : List ℕ) → kind ≡ type_number f.kind → o ≡ kind ∷ f.amount ∷ f.payer ∷ f.beneficiary ∷ [] → o ++ drop 4 numbers ≡ numbers_with f numbers
 unfolding numbers_with
-numbers_put {kind} f numbers h k =
-    four_put kind f.amount f.payer f.beneficiary numbers h ∙ ap (λ n. n ∷ f.amount ∷ f.payer ∷ f.beneficiary ∷ drop 4 numbers) k
-
-pub ruleset numbers = (second_in, third_in, numbers_put, rules)
+numbers_put f numbers k e = rw (e, k) refl
 
 -- ## Texts
 
@@ -104,8 +83,6 @@ module _ {t u : List ℕ} (f : ItemFields) (texts : List ℕ) (h : length f.refe
       let x = reference_put in
       let y = name_put in
       λ i. record { kind = f.kind; amount = f.amount; payer = f.payer; beneficiary = f.beneficiary; reference = x i; name = y i }
-
-pub ruleset texts = (texts_put, put_found, rules)
 
 texts_first : (f : ItemFields) (t : List ℕ) → 128 ≤ length t → take 128 (texts_with f t) ≡ take 128 t
 unfolding texts_with pasted
@@ -153,31 +130,16 @@ pub held_refused : (r : ItemRead) (texts : List ℕ) → (r.answer.number ≡ 0 
 unfolding Held
 held_refused r texts h z = absurd (h z)
 
--- ## Without room
+pub numbers_kept : (r : ItemRead) (numbers : List ℕ) → (r.answer.number ≡ 0 → ⊥) → numbers ≡ item_numbers r numbers
+unfolding item_numbers pick
+numbers_kept r numbers z = rw (ne_eqb _ _ z) refl
 
-pub room_of_one : {r : ItemRead} (file : List ℕ) (batch item : ℕ) → r ≡ item_of file batch item 1 → r ≡ item_of file batch item 0
-unfolding item_of answered_by
-room_of_one file batch item h = h
+-- ## Without room
 
 -- what is handed out goes by whether the room is large enough
 same_handed : (lines : ℕ) (x : Option ItemAt) (a b : ℕ) → leb 128 a ≡ leb 128 b → handed_out lines x a ≡ handed_out lines x b
 same_handed lines none a b e = refl
 same_handed lines (some x) a b e = rw e refl
-
-none_written : (x : Option ItemAt) → [] ≡ room_with x []
-unfolding pick
-none_written none = refl
-none_written (some x) = refl
-
-pub promised_of_one : {r : ItemRead} {c : ℕ} {after : List ℕ} (file : List ℕ) (batch item : ℕ) → Promised file batch item (c ∷ []) r after → Promised file batch item [] r []
-promised_of_one {r} file batch item p =
-    record {
-      handed = λ f h. p.handed f h ∙ same_handed r.answer.line (item_at f batch item) 1 0 refl;
-      written = λ f h. none_written (item_at f batch item);
-      lines = p.lines;
-      refusal = p.refusal;
-      untouched = λ h. refl;
-    }
 
 lacking : (a : Answer) (q b : Bool) → eqb a.number 0 ≡ b
     → (pick b (pick q (answered (refusal 12 a.line 0) no_fields) (answered (refusal 13 a.line 0) no_fields)) (answered a no_fields)).answer.number ≡ 0 → ⊥
@@ -190,48 +152,39 @@ lacking_refused : (file : List ℕ) (batch item : ℕ) → (item_of file batch i
 unfolding item_of answered_by pick
 lacking_refused file batch item = lacking (check_of file) (is_type (after_lines (started batch item) (lines_in file)).found.fields.kind) (eqb (check_of file).number 0) refl
 
-module _ {r : ItemRead} (file : List ℕ) (batch item count : ℕ) (e : r ≡ item_of file batch item 0) where
+-- what lacks: four numbers, or bytes for the texts
+abbrev Lacks : ℕ → ℕ → Type 0
+Lacks count room = (count < 4) ⊎ ((4 ≤ count) × (room < 168))
+
+module _ {count room : ℕ} where
+  lacks_room : {A : Type 0} (x y : A) → Lacks count room → pick (leb 4 count) (pick (leb 168 room) x y) y ≡ y
+  unfolding pick
+  lacks_room x y (inl h) = rw (lt-leb 4 count h) refl
+  lacks_room x y (inr h) = rw (le-leb 4 count h.0, lt-leb 168 room h.1) refl
+
+module _ {r : ItemRead} (file : List ℕ) (batch item : ℕ) (e : r ≡ item_of file batch item 0) where
   lacking_answer : r.answer.number ≡ 0 → ⊥
   lacking_answer w = lacking_refused file batch item (ap (λ (y : ItemRead). y.answer.number) (sym e) ∙ w)
 
   pub lacking_numbers : (numbers : List ℕ) → numbers ≡ item_numbers r numbers
-  unfolding item_numbers pick
-  lacking_numbers numbers = rw (ne_eqb _ _ lacking_answer) refl
+  lacking_numbers numbers = numbers_kept r numbers lacking_answer
 
   pub lacking_held : (texts : List ℕ) → Held r texts
   lacking_held texts = held_refused r texts lacking_answer
 
-  pub asked_few : (room : ℕ) → count < 4 → r ≡ item_asked file batch item room count
-  unfolding item_asked pick
-  asked_few room h = e ∙ rw (lt-leb 4 count h) refl
+  pub lacking_asked : (room count : ℕ) → Lacks count room → r ≡ item_asked file batch item room count
+  unfolding item_asked
+  lacking_asked room count h = e ∙ ap (item_of file batch item) (sym (lacks_room room 0 h))
 
-  pub asked_unroomed : (room : ℕ) → 4 ≤ count → room < 168 → r ≡ item_asked file batch item room count
-  unfolding item_asked pick
-  asked_unroomed room h k = e ∙ rw (le-leb 4 count h, lt-leb 168 room k) refl
-
-  untexted : (texts : List ℕ) → r ≡ item_asked file batch item (length texts) count → texts ≡ item_texts file batch item texts count
+  pub lacking_texts : (texts : List ℕ) (count : ℕ) → Lacks count (length texts) → texts ≡ item_texts file batch item texts count
   unfolding item_texts pick
-  untexted texts g =
-      let z : (item_asked file batch item (length texts) count).answer.number ≡ 0 → ⊥ = λ w. lacking_answer (ap (λ (y : ItemRead). y.answer.number) g ∙ w) in
+  lacking_texts texts count h =
+      let z : (item_asked file batch item (length texts) count).answer.number ≡ 0 → ⊥ = λ w. lacking_answer (ap (λ (y : ItemRead). y.answer.number) (lacking_asked (length texts) count h) ∙ w) in
       rw (ne_eqb _ _ z) refl
 
-  pub texts_few : (texts : List ℕ) → count < 4 → texts ≡ item_texts file batch item texts count
-  texts_few texts h = untexted texts (asked_few (length texts) h)
-
-  pub texts_unroomed : (texts : List ℕ) → 4 ≤ count → length texts < 168 → texts ≡ item_texts file batch item texts count
-  texts_unroomed texts h k = untexted texts (asked_unroomed (length texts) h k)
-
-module _ {r : ItemRead} (file : List ℕ) (batch item : ℕ) (texts : List ℕ) (count : ℕ) (p : Promised file batch item [] r []) where
-  lacking_promised : described_room texts count ≡ [] → ItemPromised file batch item texts r texts count
-  lacking_promised d = subst (λ x. Promised file batch item x r x) (sym d) p
-
-  pub few_promised : count < 4 → ItemPromised file batch item texts r texts count
-  unfolding described_room pick
-  few_promised h = lacking_promised (rw (lt-leb 4 count h) refl)
-
-  pub unroomed_promised : 4 ≤ count → length texts < 168 → ItemPromised file batch item texts r texts count
-  unfolding described_room pick
-  unroomed_promised h k = lacking_promised (rw (le-leb 4 count h, lt-leb 168 (length texts) k) refl)
+pub lacking_promised : {r : ItemRead} (file : List ℕ) (batch item : ℕ) (texts : List ℕ) (count : ℕ) → Promised file batch item [] r [] → Lacks count (length texts) → ItemPromised file batch item texts r texts count
+unfolding described_room
+lacking_promised {r} file batch item texts count p h = subst (λ x. Promised file batch item x r x) (sym (lacks_room (take 128 texts) [] h)) p
 
 -- ## With room
 
@@ -246,10 +199,6 @@ refused_kept : (file : List ℕ) (batch item : ℕ) (out : List ℕ) → ((item_
 unfolding item_of answered_by room_after room_by
 refused_kept file batch item out h =
     kept_by (eqb (check_of file).number 0) (is_type (after_lines (started batch item) (lines_in file)).found.fields.kind) (leb 128 (length out)) _ out _ _ _ _ (λ e. refl) h
-
-pub numbers_kept : (r : ItemRead) (numbers : List ℕ) → (r.answer.number ≡ 0 → ⊥) → numbers ≡ item_numbers r numbers
-unfolding item_numbers pick
-numbers_kept r numbers z = rw (ne_eqb _ _ z) refl
 
 pub numbers_handed : {o : List ℕ} (r : ItemRead) (numbers : List ℕ) → r.answer.number ≡ 0 → o ≡ numbers_with r.fields numbers → o ≡ item_numbers r numbers
 unfolding item_numbers pick
@@ -330,12 +279,6 @@ module _ {r : ItemRead} (file : List ℕ) (batch item room count : ℕ) (e : r �
   pub whole_line : r.answer.line ≤ 6999369996
   unfolding item_asked
   whole_line = subst (λ n. n ≤ 6999369996) (sym (ap (λ (y : ItemRead). y.answer.line) e ∙ line_shape (shape file batch item _))) (check_line file)
-
-  pub whole_number : {n : ℕ} → n ≡ packed r.answer → n ≡ packed (item_asked file batch item room count).answer
-  whole_number h = h ∙ ap (λ (y : ItemRead). packed y.answer) e
-
-  pub whole_numbers : {o : List ℕ} (numbers : List ℕ) → o ≡ item_numbers r numbers → o ≡ item_numbers (item_asked file batch item room count) numbers
-  whole_numbers numbers h = h ∙ ap (λ y. item_numbers y numbers) e
 
   module _ (n : ℕ) (numbers before texts : List ℕ) (u : unpacked n ≡ r.answer) (h : numbers ≡ item_numbers r before) (t : Held r texts) where
     own : item_found n numbers texts ≡ r

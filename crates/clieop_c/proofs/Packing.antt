@@ -4,7 +4,6 @@ use mathlib.Core.Path.{◌≡◌, refl, sym, ap, subst, ◌∙◌}
 use mathlib.Core.List.{List}
 use mathlib.Core.Bool.{Bool, true, false}
 use native.Mathlib.Omega.{arith}
-use borrow.Author.Rules.{rules}
 use borrow.Author.Tests.{eq-eqb, ne_eqb, eqb-false}
 use lib.Dec.{eqb}
 use Rattle.machine.specs.Lists.{pick}
@@ -22,26 +21,21 @@ use Rattle.file.specs.Meaning.{Means}
 use Rattle.file.specs.Totals.{Totalled}
 use Rattle.clieop_c.specs.Returned.{packed, unpacked, number_after, items_after, amount_after, TotalsFound}
 
--- WHAT WAS PACKED IS READ BACK
-module _ (a : Answer) (n : a.number < 256) (c : a.column < 256) where
-  pub read_packed : unpacked (packed a) ≡ a
-  unfolding unpacked packed
-  read_packed =
+-- WHAT IS PACKED IS READ BACK
+module _ (a : Answer) where
+  pub packs : a.number + 256 * a.column + 65536 * a.line ≡ packed a
+  unfolding packed
+  packs = refl
+
+  pub packs_read : a.number < 256 → a.column < 256 → unpacked (a.number + 256 * a.column + 65536 * a.line) ≡ a
+  unfolding unpacked
+  packs_read n c =
       let x : (a.number + 256 * a.column + 65536 * a.line) % 256 ≡ a.number = omega arith in
       let y : (a.number + 256 * a.column + 65536 * a.line) / 65536 ≡ a.line = omega arith in
       let q : (a.number + 256 * a.column + 65536 * a.line) / 256 ≡ a.column + 256 * a.line = omega arith in
       let m : (a.column + 256 * a.line) % 256 ≡ a.column = omega arith in
       let z = ap (λ d. d % 256) q ∙ m in
       λ i. refusal (x i) (y i) (z i)
-
--- of an answer's parts
-module _ {number column : ℕ} (a : Answer) (n : number ≡ a.number) (c : column ≡ a.column) where
-  pub packs : number + 256 * column + 65536 * a.line ≡ packed a
-  unfolding packed
-  packs = rw (n, c) refl
-
-  pub packs_read : a.number < 256 → a.column < 256 → unpacked (number + 256 * column + 65536 * a.line) ≡ a
-  packs_read h k = ap unpacked packs ∙ read_packed a h k
 
 -- ## A number that is lent
 
@@ -77,23 +71,6 @@ module _ {x : FileRead} (file : List ℕ) (e : x ≡ read_of file) where
   pub line_packs : x.answer.line ≤ 6999369996
   line_packs = subst (λ (y : FileRead). y.answer.line ≤ 6999369996) (sym e) (check_line file)
 
-  pub check_number : {r : ℕ} → r ≡ packed x.answer → r ≡ packed (check_of file)
-  check_number n = n ∙ ap (λ (y : FileRead). packed y.answer) e
-
-  module _ (r : ℕ) (u : unpacked r ≡ x.answer) where
-    pub check_answer : unpacked r ≡ check_of file
-    check_answer = u ∙ ap (λ (y : FileRead). y.answer) e
-
-    pub check_means : Means file x.answer → Means file (unpacked r)
-    check_means m = subst (Means file) (sym u) m
-
-  module _ {n : ℕ} (before : ℕ) where
-    pub check_items : n ≡ items_after x before → n ≡ items_after (read_of file) before
-    check_items h = h ∙ ap (λ (y : FileRead). items_after y before) e
-
-    pub check_amount : n ≡ amount_after x before → n ≡ amount_after (read_of file) before
-    check_amount h = h ∙ ap (λ (y : FileRead). amount_after y before) e
-
   -- the totals of a file that is accepted
   module _ {items amount : ℕ} (i j : ℕ) where
     pub check_totals : Means file x.answer → Totalled file x.answer x.totals → items ≡ items_after x i → amount ≡ amount_after x j → TotalsFound file items amount
@@ -102,5 +79,3 @@ module _ {x : FileRead} (file : List ℕ) (e : x ≡ read_of file) where
         let z = eq-eqb x.answer.number 0 (m.accepted_exactly.1 (f, r)) in
         let w = t.whole f r in
         record { items = a ∙ rw z w.items; amount = b ∙ rw z w.amount }
-
-pub ruleset checks = (line_packs, check_number, check_answer, check_means, rules)

@@ -15,7 +15,7 @@ use Rattle.rewriting.specs.Cities.{without_cities}
 use Rattle.rewriting.specs.Rewriting.{answered, rewritten_of}
 use Rattle.rewriting.specs.Promises.{Promised}
 use Rattle.rewriting.specs.declared.Rewritten.{Rewritten}
-use Rattle.clieop_c.specs.Returned.{packed, unpacked, number_after, written_after, rewrite_by, rewrite_found}
+use Rattle.clieop_c.specs.Returned.{unpacked, number_after, written_after, rewrite_by, rewrite_found}
 use Rattle.clieop_c.proofs.Packing.{check_line}
 
 -- an answer is a refusal that wrote nothing, or an acceptance
@@ -46,11 +46,8 @@ module _ {w : Rewritten} (file : List ℕ) (room : ℕ) (e : w ≡ rewritten_of 
   pub again_line : w.answer.line ≤ 6999369996
   again_line = subst (λ n. n ≤ 6999369996) (sym (ap (λ (y : Rewritten). y.answer.line) e ∙ line_shape (shape file room))) (check_line file)
 
-  pub again_number : {r : ℕ} → r ≡ packed w.answer → r ≡ packed (rewritten_of file room).answer
-  again_number n = n ∙ ap (λ (y : Rewritten). packed y.answer) e
-
   module _ {n m : ℕ} (before : ℕ) (k : m ≡ w.written) (h : n ≡ number_after w.answer m before) where
-    pub again_written : n ≡ written_after (rewritten_of file room) before
+    again_written : n ≡ written_after (rewritten_of file room) before
     again_written = h ∙ ap (λ p. number_after w.answer p before) k ∙ ap (λ y. written_after y before) e
 
     module _ (r : ℕ) (u : unpacked r ≡ w.answer) where

@@ -2,7 +2,7 @@
 ghost use Rattle.std.specs.Prelude.{◌≡◌, [], ◌≤◌, length};
 ghost use Rattle.items.specs.Answering.{item_of};
 ghost use Rattle.items.specs.Promises.{Promised};
-ghost use Rattle.clieop_c.specs.Returned.{packed, type_number, number_of, item_asked, numbers_with, texts_with};
+ghost use Rattle.clieop_c.specs.Returned.{packed, type_number, item_asked, numbers_with, texts_with};
 ghost use Rattle.clieop_c.specs.Returned.{fields_back, item_numbers, item_texts, Held, item_found, ItemPromised};
 
 use crate::pack;
@@ -10,24 +10,13 @@ use field::bytes::put;
 use format::TransactionType;
 use items::{ItemFields, ItemRead};
 
-fn number_of(kind: TransactionType) -> u64
-    ensures { result ≡ number_of kind }
-{
-    match kind {
-        TransactionType::UncheckedCreditor => 0,
-        TransactionType::UncheckedSalary => 3,
-        TransactionType::Creditor => 5,
-        TransactionType::Salary => 8,
-        TransactionType::Debit => 1001,
-        TransactionType::UncheckedDebit => 1002,
-    }
-}
-
+// A type as a number, 0 where there is none.
+#[tactic(auto, unfolding(crate::specs::Returned::number_of, machine::specs::Digits::value_after))]
 fn type_number(kind: Option<TransactionType>) -> u64
     ensures { result ≡ type_number kind }
 {
     match kind {
-        Some(y) => number_of(y),
+        Some(y) => y as u64,
         None => 0,
     }
 }
@@ -37,11 +26,12 @@ fn put_numbers(fields: ItemFields, numbers: &mut [u64])
     requires { 4 ≤ length numbers.old }
     ensures { numbers.new ≡ numbers_with fields numbers.old }
 {
-    let kind = fields.kind;
-    numbers[0] = type_number(kind);
-    numbers[1] = fields.amount;
-    numbers[2] = fields.payer;
-    numbers[3] = fields.beneficiary;
+    numbers[..4].copy_from_slice(&[
+        type_number(fields.kind),
+        fields.amount,
+        fields.payer,
+        fields.beneficiary,
+    ]);
 }
 
 // The reference and the name, behind the descriptions.
@@ -50,10 +40,8 @@ fn put_texts(fields: ItemFields, texts: &mut [u8])
     ensures texts { texts.new ≡ texts_with fields texts.old }
     ensures found { fields_back fields texts.new ≡ fields }
 {
-    let reference = fields.reference;
-    let name = fields.name;
-    put(&reference, 128, texts);
-    put(&name, 144, texts);
+    put(&fields.reference, 128, texts);
+    put(&fields.name, 144, texts);
 }
 
 // What is answered without room for the item.
@@ -61,8 +49,7 @@ fn without_room(file: &[u8], batch: u64, item: u64) -> ItemRead
     ensures answer { result ≡ item_of file.now batch item 0 }
     ensures meaning { Promised file.now batch item [] result [] }
 {
-    let mut room = [0u8; 1];
-    items::item(file, batch, item, &mut room)
+    items::item(file, batch, item, &mut [])
 }
 
 // The item, handed out where there is room for all of it; and what `items::item` promises, with the first 128 bytes as
@@ -77,17 +64,13 @@ fn hand_out(file: &[u8], batch: u64, item: u64, texts: &mut [u8], numbers: &mut 
     ensures meaning { ItemPromised file.now batch item texts.old result texts.new
         (length numbers.old) }
 {
-    if numbers.len() < 4 {
-        return without_room(file, batch, item);
-    }
-    if texts.len() < 168 {
+    if numbers.len() < 4 || texts.len() < 168 {
         return without_room(file, batch, item);
     }
     let r = items::item(file, batch, item, texts);
     if r.answer.number == 0 {
-        let fields = r.fields;
-        put_texts(fields, texts);
-        put_numbers(fields, numbers);
+        put_texts(r.fields, texts);
+        put_numbers(r.fields, numbers);
     }
     r
 }
@@ -116,6 +99,5 @@ pub extern "C" fn clieop_item(
         (item_found result numbers.new texts.new) texts.new (length numbers.old) }
 {
     let r = hand_out(file, batch, item, texts, numbers);
-    let a = r.answer;
-    pack(a)
+    pack(r.answer)
 }

@@ -25,10 +25,7 @@ fn pack(a: Answer) -> u64
     ensures number { result ≡ packed a }
     ensures read { unpacked result ≡ a }
 {
-    let number = a.number as u64;
-    let column = 256 * a.column as u64;
-    let line = 65536 * a.line;
-    number + column + line
+    a.number as u64 + 256 * a.column as u64 + 65536 * a.line
 }
 
 // A number handed out, with answer 0 only.
@@ -47,9 +44,7 @@ pub extern "C" fn clieop_check(file: &[u8]) -> u64
     ensures answer { unpacked result ≡ check_of file.now }
     ensures meaning { Means file.now (unpacked result) }
 {
-    let read = file::check(file);
-    let a = read.answer;
-    pack(a)
+    pack(file::check(file).answer)
 }
 
 // A file written again without its city records, its lines ended by 13, 10, to the front of `out`, and to `written`
@@ -65,7 +60,6 @@ pub extern "C" fn clieop_rewrite(file: &[u8], out: &mut [u8], written: &mut u64)
     ensures again { Promised file.now (rewrite_found result written.new) out.new }
 {
     let r = rewriting::rewrite(file, out);
-    let a = r.answer;
-    put_number(a, r.written as u64, written);
-    pack(a)
+    put_number(r.answer, r.written as u64, written);
+    pack(r.answer)
 }

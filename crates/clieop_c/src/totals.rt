@@ -20,9 +20,7 @@ pub extern "C" fn clieop_totals(file: &[u8], items: &mut u64, amount: &mut u64) 
     ensures totals { TotalsFound file.now items.new amount.new }
 {
     let read = file::check(file);
-    let a = read.answer;
-    let t = read.totals;
-    put_number(a, t.items, items);
-    put_number(a, t.amount, amount);
-    pack(a)
+    put_number(read.answer, read.totals.items, items);
+    put_number(read.answer, read.totals.amount, amount);
+    pack(read.answer)
 }

@@ -38,12 +38,12 @@ pub enum Group {
 // 0000, 0003, 0005, 0008 of group 00; 1001, 1002 of group 10.
 #[derive(Clone, Copy, PartialEq, Eq)]
 pub enum TransactionType {
-    UncheckedCreditor,
-    UncheckedSalary,
-    Creditor,
-    Salary,
-    Debit,
-    UncheckedDebit,
+    UncheckedCreditor = 0,
+    UncheckedSalary = 3,
+    Creditor = 5,
+    Salary = 8,
+    Debit = 1001,
+    UncheckedDebit = 1002,
 }
 
 // What is answered: a number of 01's table, the line and the column that it names, each 0 where it names none.

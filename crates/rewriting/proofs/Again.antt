@@ -45,10 +45,10 @@ use Rattle.reading.proofs.Endings.{ended_with, fifty_first, is_ended}
 use Rattle.reading.proofs.Verdicts.{taken_as, Taken}
 use Rattle.writer.specs.Encoding.{line_end}
 use Rattle.writer.specs.Entries.{line_for}
-use Rattle.writer.specs.Writing.{answered, written_of}
+use Rattle.writer.specs.Writing.{written_of}
 use Rattle.writer.specs.Promises.{entry_of}
 use Rattle.writer.specs.declared.Entry.{Entry}
-use Rattle.writer.specs.declared.Written.{Written}
+use Rattle.std.proofs.Common.{Ok as accepts}
 use Rattle.writer.proofs.Accepting.{read_as, read_taken}
 use Rattle.writer.proofs.Again.{written_again}
 use Rattle.file.proofs.Meaning.{means}
@@ -198,7 +198,7 @@ has_entry p b k l f =
 abbrev read_line : State → (k : Kind) → List ℕ → LineRead
 read_line s k xs = read_as s (cut_of xs) k (fields_of k (take 50 xs))
 
-wrote : (w : State) (e : Entry) (t : List ℕ) (r : LineRead) → step_at w (line_for w e t) ≡ r → r.answer.number ≡ 0 → written_of w e t 52 ≡ answered r.answer r.next
+wrote : (w : State) (e : Entry) (t : List ℕ) (r : LineRead) → step_at w (line_for w e t) ≡ r → r.answer.number ≡ 0 → written_of w e t 52 ≡ accepts r.next
 unfolding written_of pick
 wrote w e t r h z = rw (h, eq-eqb r.answer.number 0 z)
 
@@ -231,14 +231,14 @@ module _ {s : State} {x : ℕ} {xs : List ℕ} (tk : Taken s (x ∷ xs)) (w : St
         ∙ written_again w again not_empty (ap (λ (r : LineRead). r.answer.number) read_w) entry.0 (ap (λ (r : LineRead). entry_of r.read) read_w ∙ ap (λ y. entry_of (record_for tk.kind y)) same_fields ∙ entry.1)
         ∙ ap (line_for w entry.0) (ap (λ (r : LineRead). r.text) read_w ∙ ap (text_for tk.kind) same_fields ∙ sym (ap (λ (r : LineRead). r.text) read_s))
 
-    writer_is : written_of w entry.0 (step_at s (x ∷ xs)).text 52 ≡ answered (read_line w tk.kind again).answer (read_line w tk.kind again).next
+    writer_is : written_of w entry.0 (step_at s (x ∷ xs)).text 52 ≡ accepts (read_line w tk.kind again).next
     writer_is = wrote w entry.0 (step_at s (x ∷ xs)).text (read_line w tk.kind again) (ap (step_at w) (sym line_is) ∙ read_w) refl
 
     kept_written : Rewrites s w (x ∷ xs) (again ++ rest)
     kept_written =
         subst (λ l. Rewrites s w (x ∷ xs) (l ++ rest)) (sym line_is)
-        (written entry.0 (ap (λ (r : LineRead). r.answer.number) read_s) (ap (λ (r : LineRead). entry_of r.read) read_s ∙ entry.1) (ap (λ (v : Written). v.answer.number) writer_is)
-        (subst (λ (v : Written). Rewrites (step_at s (x ∷ xs)).next v.next (after_next (x ∷ xs)) rest) (sym writer_is) (after (next_by w tk.kind again) (behind_too b tk c))))
+        (written entry.0 (ap (λ (r : LineRead). r.answer.number) read_s) (ap (λ (r : LineRead). entry_of r.read) read_s ∙ entry.1) writer_is
+        (after (next_by w tk.kind again) (behind_too b tk c)))
 
   line_written : (q : Bool) → is_city (next_line (x ∷ xs)) ≡ q → Rewrites s w (x ∷ xs) (pick q [] (take 50 (next_line (x ∷ xs)) ++ line_end) ++ rest)
   unfolding pick

@@ -1,5 +1,5 @@
 -- WHAT WRITING AGAIN PROMISES of an accepted file.
-use Rattle.std.specs.Prelude.{ℕ, ◌≡◌, List, [], ◌∷◌, ◌++◌, Bool, true, not, ◌&&◌, take}
+use Rattle.std.specs.Prelude.{ℕ, ◌≡◌, List, [], ◌∷◌, ◌++◌, Bool, true, not, ◌&&◌, take, Ok}
 use Rattle.std.proofs.Math.Option.{none, some}
 use Rattle.machine.specs.Lists.{pick}
 use Rattle.format.specs.Records.{code}
@@ -29,9 +29,9 @@ pub data Rewrites : State → State → List ℕ → List ℕ → Type 0 where
   ended : (s w : State) → Rewrites s w [] []
   city : {s w : State} {x : ℕ} {xs out : List ℕ} → (step_at s (x ∷ xs)).answer.number ≡ accepted → entry_of (step_at s (x ∷ xs)).read ≡ none
       → Rewrites (step_at s (x ∷ xs)).next w (after_next (x ∷ xs)) out → Rewrites s w (x ∷ xs) out
-  written : {s w : State} {x : ℕ} {xs out : List ℕ} (e : Entry) → (step_at s (x ∷ xs)).answer.number ≡ accepted → entry_of (step_at s (x ∷ xs)).read ≡ some e
-      → (written_of w e (step_at s (x ∷ xs)).text 52).answer.number ≡ accepted
-      → Rewrites (step_at s (x ∷ xs)).next (written_of w e (step_at s (x ∷ xs)).text 52).next (after_next (x ∷ xs)) out
+  written : {s w u : State} {x : ℕ} {xs out : List ℕ} (e : Entry) → (step_at s (x ∷ xs)).answer.number ≡ accepted → entry_of (step_at s (x ∷ xs)).read ≡ some e
+      → written_of w e (step_at s (x ∷ xs)).text 52 ≡ Ok u
+      → Rewrites (step_at s (x ∷ xs)).next u (after_next (x ∷ xs)) out
       → Rewrites s w (x ∷ xs) (line_for w e (step_at s (x ∷ xs)).text ++ out)
 
 abbrev pub is_city_kind : Kind → Bool

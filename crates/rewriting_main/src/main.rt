@@ -97,13 +97,13 @@ impl Copied<'_> {
         if BUFFER < page.at {
             return;
         }
-        let w = writer::write(self.writer, entry, text, &mut page.bytes[page.at..]);
-        if w.answer.number != 0 {
-            self.answer = w.answer;
-            return;
+        match writer::write(self.writer, entry, text, &mut page.bytes[page.at..]) {
+            Ok(next) => {
+                self.writer = next;
+                page.at += writer::LINE;
+            }
+            Err(answer) => self.answer = answer,
         }
-        self.writer = w.next;
-        page.at += writer::LINE;
     }
 
     // Writes what is gathered.

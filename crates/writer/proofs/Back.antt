@@ -7,7 +7,7 @@ use mathlib.Core.List.{List, [], ◌∷◌, ◌++◌, append_assoc}
 use mathlib.Core.Bool.{Bool, true, false, not, ◌&&◌, ◌||◌}
 use native.Mathlib.Omega.{arith}
 use borrow.Author.Tests.{not-false, ltb-true, lt-leb}
-use lib.ListN.{length, take, drop, take-append-drop, length-append, length-drop, length-replicate}
+use lib.ListN.{length, take, drop, take-append-drop, length-append, length-drop}
 use lib.Seq.{take_at, drop_at, take_all, length-take-le}
 use lib.Dec.{T, leb, ltb}
 use Rattle.machine.specs.Lists.{pick, all, same, is_digit, is_space, spaces}
@@ -42,9 +42,11 @@ use Rattle.writer.specs.Entries.{digits_for, kind_of, given_for, line_for}
 use Rattle.writer.specs.Promises.{record_of, is_text_fit, is_unfit}
 use Rattle.writer.specs.declared.Entry.{Entry}
 use Rattle.writer.specs.declared.Entry.TheVariants.{FileHeader, BatchHeader, FixedDescription, OrderingParty, Transaction, NamePayer, PaymentReference, Description, NameBeneficiary, BatchTrailer, FileTrailer}
-use Rattle.writer.proofs.Building.{spaces_split, number_long, text_long, digits_beyond, digits_long, blank_long, group_long, type_long, test_long}
+use Rattle.std.proofs.lemmas.List.{drop-replicate}
+use Rattle.writer.proofs.Building.{number_long, text_long, digits_beyond, digits_long, blank_long, group_long, type_long, test_long}
 use Rattle.record.proofs.Coding.{one_kind}
 use Rattle.writer.proofs.Accepting.{Accepted, read_as, accepts, accepted_body}
+use Rattle.reading.proofs.Verdicts.{next_line_lem}
 
 -- ## What a field carries
 
@@ -226,9 +228,7 @@ record_back s t FileTrailer f = refl
 pub padded_is : (w : ℕ) (t : List ℕ) → length t ≡ w → w ≤ 35 → padded t ≡ t ++ spaces (35 - w)
 unfolding padded
 padded_is w t h k =
-    let z : 35 ≡ w + (35 - w) = omega arith in
-    let d : drop w (spaces 35) ≡ spaces (35 - w) = ap (λ n. drop w (spaces n)) z ∙ ap (drop w) (spaces_split w (35 - w)) ∙ drop_at (spaces w) (spaces (35 - w)) w (length-replicate w 32) in
-    put_front no_text t (omega arith) refl ∙ ap (λ n. t ++ drop n no_text) h ∙ ap (λ r. t ++ r) d
+    put_front no_text t (omega arith) refl ∙ ap (λ n. t ++ drop n no_text) h ∙ ap (λ r. t ++ r) (drop-replicate w 35 32)
 
 text_all : (w : ℕ) (t : List ℕ) → length t ≡ 35 → w ≤ 35 → not (is_text_fit w t) ≡ false → padded (take w t) ≡ t
 text_all w t h k u =
@@ -294,6 +294,11 @@ module _ (s : State) (e : Entry) (t : List ℕ) (h : length t ≡ 35) where
       let y = ap (text_for (kind_of e)) b.0 ∙ text_back_is s t e h b.1 in
       a.step ∙ ap (λ m. read_as s (cut_of (line_for s e t)) m (fields_of m (take 50 (line_for s e t)))) q ∙ ap (λ c. read_as s c (kind_of e) x) (line_cut crlf (line_for s e t) is_line)
       ∙ ap₂ (λ i j. record { answer = acceptance (s.line + 1); next = with_ending (Some CrLf) (next_for s (kind_of e) x); bytes = 52; read = i; text = j }) r y
+
+  pub read_line : (step_at s (line_for s e t)).answer.number ≡ 0 → (step_at s (line_for s e t)).next.line ≡ s.line + 1
+  read_line z =
+      let a = accepts s (line_for s e t) (omega (arith, line_52)) z in
+      ap (λ (r : LineRead). r.next.line) (of_accepted a (one_kind a.kind (kind_of e) a.coded front_code)) ∙ next_line_lem s (kind_of e) _
 
   pub read_back : (step_at s (line_for s e t)).answer.number ≡ 0 → step_at s (line_for s e t) ≡ record { answer = acceptance (s.line + 1); next = (step_at s (line_for s e t)).next; bytes = 52; read = record_of s e; text = t }
   read_back z =

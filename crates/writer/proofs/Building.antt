@@ -1,10 +1,10 @@
 -- A line, field after field. Assumes nothing.
-use Prim.Native.Nat.{ℕ, zero, suc, ◌+◌, ◌-◌, ◌≤◌, ◌<◌}
+use Prim.Native.Nat.{ℕ, ◌+◌, ◌-◌, ◌≤◌, ◌<◌}
 use mathlib.Core.Path.{◌≡◌, refl, sym, ◌∙◌, ap, ap₂, subst}
 use mathlib.Core.List.{List, [], ◌∷◌, ◌++◌, append_assoc, append-nil}
 use mathlib.Core.Bool.{Bool, true, false, ◌&&◌}
 use native.Mathlib.Omega.{arith}
-use borrow.Author.Rules.{rules}
+use Rattle.std.proofs.lemmas.List.{replicate-append-replicate}
 use lib.ListN.{length, take, drop, length-append, length-replicate, drop_of_length-le}
 use lib.Seq.{take_all, take_at, drop_at, drop-append-add, length-take-le}
 use borrow.Author.Tests.{ne_eqb, leb-true}
@@ -115,12 +115,8 @@ test_long false = refl
 
 -- ## Field after field: what is written so far, then spaces and the end
 
-pub spaces_split : (w n : ℕ) → spaces (w + n) ≡ spaces w ++ spaces n
-spaces_split zero n = let q : 0 + n ≡ n = omega arith in ap spaces q
-spaces_split (suc w) n = let q : suc w + n ≡ suc (w + n) = omega arith in ap spaces q ∙ ap (λ t. 32 ∷ t) (spaces_split w n)
-
 split_end : (w n : ℕ) → spaces (w + n) ++ line_end ≡ spaces w ++ (spaces n ++ line_end)
-split_end w n = ap (λ t. t ++ line_end) (spaces_split w n) ∙ append_assoc (spaces w) (spaces n) line_end
+split_end w n = ap (λ t. t ++ line_end) (sym (replicate-append-replicate w n 32)) ∙ append_assoc (spaces w) (spaces n) line_end
 
 record Built (l d : List ℕ) (a n : ℕ) : Type 0 where
   is : l ≡ d ++ (spaces n ++ line_end)
@@ -155,8 +151,10 @@ module _ {l d m : List ℕ} (w n a : ℕ) (b : Built l d a (w + n)) where
 start : (c : List ℕ) {l : List ℕ} → length c ≡ 5 → l ≡ c ++ (spaces 45 ++ line_end) → Built l c 5 45
 start c h e = record { is = e; long = h }
 
-pub code_put : {l x c : List ℕ} (k : Kind) → c ≡ code k → l ≡ spaces 50 ++ line_end → x ≡ put_in l 0 c → x ≡ code k ++ (spaces 45 ++ line_end)
-code_put {l} k h f e = let b : Built l [] 0 (5 + 45) = record { is = f; long = refl } in (field 5 45 0 b (code k) (line_widths k).0 (e ∙ ap (put_in l 0) h)).is
+-- the end and the code, put into spaces
+pub code_put : {l x c : List ℕ} (k : Kind) → l ≡ put_in (spaces 52) 50 line_end → c ≡ code k → x ≡ put_in l 0 c → x ≡ code k ++ (spaces 45 ++ line_end)
+unfolding put_in pasted pick
+code_put {l} k f h e = let b : Built l [] 0 (5 + 45) = record { is = f; long = refl } in (field 5 45 0 b (code k) (line_widths k).0 (e ∙ ap (put_in l 0) h)).is
 
 -- ## The kinds
 
@@ -185,8 +183,8 @@ file_header_is x y z t h p q u v w m =
     let b5 = number 1 21 28 b4 z (omega arith) m in
     b5.is ∙ simp append_assoc
 
-pub header_start_lem : (g : Group) (x y : ℕ) (l : List ℕ) {a b c r : List ℕ} → a ≡ put_in l 5 (group_text g) → b ≡ put_in a 7 (number_in 10 x) → c ≡ put_in b 17 (number_in 4 y) → r ≡ put_in c 21 EUR → r ≡ header_start l g x y
-header_start_lem g x y l p q u v = v ∙ rw (u, q, p)
+pub header_start_lem : (g : Group) (x y : ℕ) (l : List ℕ) {t a b c r : List ℕ} → t ≡ group_text g → a ≡ put_in l 5 t → b ≡ put_in a 7 (number_in 10 x) → c ≡ put_in b 17 (number_in 4 y) → r ≡ put_in c 21 EUR → r ≡ header_start l g x y
+header_start_lem g x y l o p q u v = v ∙ rw (u, q, p, o)
 
 header_built : (c : List ℕ) (g : Group) (x y : ℕ) {l r : List ℕ} → length c ≡ 5 → l ≡ coded c → r ≡ header_start l g x y → Built r ((((c ++ text_in 2 (group_text g)) ++ number_in 10 x) ++ number_in 4 y) ++ text_in 3 EUR) 24 26
 header_built c g x y h p q =
@@ -203,21 +201,21 @@ pub unidentified_is : {b : Bool} (g : Group) (x y : ℕ) (t : List ℕ) {a c r :
 unfolding encoded_line blank_in pick
 unidentified_is g x y t i p q u = (blank 16 10 24 (header_built (code kinds.BatchHeaderB) g x y refl p q) t (omega arith) u).is ∙ rw i (simp append_assoc)
 
-pub ordering_party_is : (x y : ℕ) (o : Bool) (t : List ℕ) {a b c d r : List ℕ} → length t ≡ 35 → a ≡ coded (code kinds.OrderingParty) → b ≡ put_in a 5 (number_in 1 x) → c ≡ put_in b 6 (number_in 6 y)
-    → d ≡ put_in c 12 (text_in 35 t) → r ≡ put_in d 47 (test_text o) → r ≡ encoded_line (code kinds.OrderingParty) (layout kinds.OrderingParty) (ordering_party_given x y o t)
+pub ordering_party_is : (x y : ℕ) (o : Bool) (t : List ℕ) {s a b c d r : List ℕ} → length t ≡ 35 → s ≡ test_text o → a ≡ coded (code kinds.OrderingParty) → b ≡ put_in a 5 (number_in 1 x) → c ≡ put_in b 6 (number_in 6 y)
+    → d ≡ put_in c 12 (text_in 35 t) → r ≡ put_in d 47 s → r ≡ encoded_line (code kinds.OrderingParty) (layout kinds.OrderingParty) (ordering_party_given x y o t)
 unfolding encoded_line blank_in pick
-ordering_party_is x y o t h p q u v w =
+ordering_party_is x y o t h f p q u v w =
     let b1 = number 1 44 5 (start (code kinds.OrderingParty) refl p) x (omega arith) q in
     let b2 = number 6 38 6 b1 y (omega arith) u in
     let b3 = given 35 3 12 b2 t (omega arith) (omega arith) v in
-    let b4 = fixed 1 2 47 b3 (test_text o) (test_long o) w in
+    let b4 = fixed 1 2 47 b3 (test_text o) (test_long o) (w ∙ ap (put_in _ 47) f) in
     b4.is ∙ simp append_assoc
 
-pub transaction_is : (x : Transaction) (t : List ℕ) {a b c d e r : List ℕ} → a ≡ coded (code kinds.Transaction) → b ≡ put_in a 5 (type_text x.kind) → c ≡ put_in b 9 (number_in 12 x.amount)
+pub transaction_is : (x : Transaction) (t : List ℕ) {s a b c d e r : List ℕ} → s ≡ type_text x.kind → a ≡ coded (code kinds.Transaction) → b ≡ put_in a 5 s → c ≡ put_in b 9 (number_in 12 x.amount)
     → d ≡ put_in c 21 (number_in 10 x.payer) → e ≡ put_in d 31 (number_in 10 x.beneficiary) → r ≡ pick (all is_space t) e (put_in e 41 (unfit 9)) → r ≡ encoded_line (code kinds.Transaction) (layout kinds.Transaction) (transaction_given x t)
 unfolding encoded_line
-transaction_is x t p q u v w m =
-    let b1 = fixed 4 41 5 (start (code kinds.Transaction) refl p) (type_text x.kind) (type_long x.kind) q in
+transaction_is x t f p q u v w m =
+    let b1 = fixed 4 41 5 (start (code kinds.Transaction) refl p) (type_text x.kind) (type_long x.kind) (q ∙ ap (put_in _ 5) f) in
     let b2 = number 12 29 9 b1 x.amount (omega arith) u in
     let b3 = number 10 19 21 b2 x.payer (omega arith) v in
     let b4 = number 10 9 31 b3 x.beneficiary (omega arith) w in
@@ -250,8 +248,6 @@ pub file_trailer_is : (t : List ℕ) {a r : List ℕ} → a ≡ coded (code kind
 unfolding encoded_line
 file_trailer_is t p q = let b1 = blank 45 0 5 (start (code kinds.FileTrailer) refl p) t (omega arith) q in b1.is ∙ simp (append_assoc, append-nil)
 
-pub ruleset builds = (code_put, file_header_is, header_start_lem, identified_is, unidentified_is, ordering_party_is, transaction_is, text_line_is, batch_trailer_is, file_trailer_is, rules)
-
 -- ## A record to write
 
 pub entry_is : {e m : Entry} {r : List ℕ} (s : State) (t : List ℕ) → e ≡ m → r ≡ encoded_line (code (kind_of m)) (layout (kind_of m)) (given_for s t m) → r ≡ line_for s e t
@@ -261,5 +257,3 @@ entry_is s t p q = q ∙ ap (λ y. line_for s y t) (sym p)
 pub entry_header : {e : Entry} {r : List ℕ} (s : State) (t : List ℕ) (g : Group) (a n : ℕ) (b : Bool) → e ≡ BatchHeader g a n b → r ≡ batch_header_line b g a n t → r ≡ line_for s e t
 entry_header s t g a n true p q = entry_is s t p q
 entry_header s t g a n false p q = entry_is s t p q
-
-pub ruleset entries = (entry_header, entry_is, rules)

@@ -1,16 +1,18 @@
 -- The writer's promises, from its answer and the room after it. Assumes nothing.
 use Rattle.std.specs.Prelude.{Some}
 use Rattle.format.specs.declared.LineEnd.TheVariants.{CrLf}
-use Prim.Native.Nat.{ℕ, ◌+◌, ◌<◌}
-use mathlib.Core.Path.{◌≡◌, refl, sym, ap, ap₂, ◌∙◌, subst}
+use Prim.Native.Nat.{ℕ, ◌<◌}
+use mathlib.Core.Path.{◌≡◌, refl, sym, ap, ap₂, ◌∙◌}
 use mathlib.Core.List.{List, [], ◌∷◌, ◌++◌}
 use mathlib.Core.Bool.{Bool, true, false}
 use mathlib.Core.Option.{some}
 use native.Mathlib.Omega.{arith}
 use borrow.Author.Tests.{eq-eqb, eqb-true, le-leb}
 use lib.ListN.{length, take, drop}
+use Rattle.std.proofs.Common.{Result, Ok, Err}
+use Rattle.format.specs.declared.Answer.{Answer}
 use lib.Seq.{take_at}
-use lib.Dec.{T, eqb, leb}
+use lib.Dec.{eqb, leb}
 use Rattle.machine.specs.Lists.{pick}
 use Rattle.machine.proofs.Base.{none≢some}
 use Rattle.format.specs.Answers.{refusal, acceptance}
@@ -22,33 +24,32 @@ use Rattle.reading.specs.Step.{with_ending, step_at}
 use Rattle.reading.specs.declared.State.{State}
 use Rattle.reading.specs.declared.LineRead.{LineRead}
 use Rattle.writer.specs.Entries.{line_for}
-use Rattle.writer.specs.Writing.{answered, written_by, room_by, written_of, room_of}
+use Rattle.writer.specs.Writing.{answer_of, written_by, room_by, written_of, room_of}
 use Rattle.writer.specs.Promises.{record_of, entry_of, ReadsBack, WritesAgain}
 use Rattle.writer.specs.declared.Entry.{Entry}
 use Rattle.writer.specs.declared.Entry.TheVariants.{FileHeader, BatchHeader, FixedDescription, OrderingParty, Transaction, NamePayer, PaymentReference, Description, NameBeneficiary, BatchTrailer, FileTrailer}
-use Rattle.writer.specs.declared.Written.{Written}
 use Rattle.writer.proofs.Pasting.{answer_via, room_via}
 use Rattle.reading.proofs.Answers.{step_judged}
 use Rattle.reading.proofs.Verdicts.{Taken, takes}
 use Rattle.reading.proofs.Endings.{next_ended, ended_with, fifty_first, is_ended, taken_ended}
 use Rattle.writer.proofs.Accepting.{read_as, read_taken, accepts, step_on}
-use Rattle.writer.proofs.Back.{line_52, read_back}
+use Rattle.writer.proofs.Back.{line_52, read_line, read_back}
 use Rattle.writer.proofs.Again.{written_again}
 
 -- ## Accepted, with room
 
--- an answer 0 is the reader's, and there was room
-module _ (s : State) (r : LineRead) (room : ℕ) where
-  sorted : (written_by s room r).answer.number ≡ 0 → (eqb r.answer.number 0 ≡ true) × (leb 52 room ≡ true)
+-- an acceptance is the reader's, and there was room
+module _ (r : LineRead) (room : ℕ) where
+  sorted : {next : State} → written_by room r ≡ Ok next → (eqb r.answer.number 0 ≡ true) × ((leb 52 room ≡ true) × (r.next ≡ next))
   unfolding pick
-  sorted z = by (eqb r.answer.number 0) (leb 52 room) refl z
+  sorted {next} = by (eqb r.answer.number 0) (leb 52 room)
     where
-      by : (a b : Bool) → eqb r.answer.number 0 ≡ a → (pick a (pick b (answered r.answer r.next) (answered (refusal 12 r.answer.line 0) s)) (answered r.answer s)).answer.number ≡ 0 → (a ≡ true) × (b ≡ true)
-      by true true e z = (refl, refl)
-      by true false e z = absurd (omega arith)
-      by false b e z = absurd (subst T (sym (eq-eqb r.answer.number 0 z) ∙ e) tt)
+      by : (a b : Bool) → pick a (pick b (Ok r.next) (Err (refusal 12 r.answer.line 0))) (Err r.answer) ≡ Ok next → (a ≡ true) × ((b ≡ true) × (r.next ≡ next))
+      by true true q = (refl, (refl, cc))
+      by true false q = absurd cc
+      by false b q = absurd cc
 
-  taken : eqb r.answer.number 0 ≡ true → leb 52 room ≡ true → written_by s room r ≡ answered r.answer r.next
+  taken : eqb r.answer.number 0 ≡ true → leb 52 room ≡ true → written_by room r ≡ Ok r.next
   unfolding pick
   taken a b = rw (a, b)
 
@@ -85,18 +86,18 @@ line_ended y s FileTrailer t = refl
 module _ (s : State) (e : Entry) (t : List ℕ) (h : length t ≡ 35) where
   pub reads_back : (out : List ℕ) → ReadsBack s e t (written_of s e t (length out)) (room_of s e t out)
   unfolding ReadsBack written_of room_of
-  reads_back out z =
+  reads_back out next q =
       let l = line_for s e t in
       let r = step_at s (line_for s e t) in
-      let p = sorted s r (length out) z in
-      let w = taken s r (length out) p.0 p.1 in
-      let f = read_back s e t h (eqb-true r.answer.number 0 p.0) in
-      let o = ap (take 52) (filled r l out p.0 p.1) ∙ take_at l (drop 52 out) 52 (line_52 s e t h) in
+      let p = sorted r (length out) q in
+      let z = eqb-true r.answer.number 0 p.0 in
+      let n = sym (ap (λ (v : State). v.line) p.1.1) ∙ read_line s e t h z in
+      let o = ap (take 52) (filled r l out p.0 p.1.0) ∙ take_at l (drop 52 out) 52 (line_52 s e t h) in
       record {
-        next_line = ap (λ (v : Written). v.answer) w ∙ ap (λ (v : LineRead). v.answer) f;
+        next_line = n;
         same_record = λ rest.
-            ap (λ m. step_at s (m ++ rest)) o ∙ step_on (accepts s l (omega (arith, line_52 s e t h)) (eqb-true r.answer.number 0 p.0)) rest ∙ f
-            ∙ ap₂ (λ a u. record { answer = a; next = u; bytes = 52; read = record_of s e; text = t }) (sym (ap (λ (v : Written). v.answer) w ∙ ap (λ (v : LineRead). v.answer) f)) (sym (ap (λ (v : Written). v.next) w));
+            ap (λ m. step_at s (m ++ rest)) o ∙ step_on (accepts s l (omega (arith, line_52 s e t h)) z) rest ∙ read_back s e t h z
+            ∙ ap₂ (λ a u. record { answer = acceptance a; next = u; bytes = 52; read = record_of s e; text = t }) (sym n) p.1.1;
       }
 
   module _ (o : is_open s.before.ending (Some CrLf) ≡ true) (y : EndingSoFar) (xs : List ℕ) (z : (step_at (with_ending y s) xs).answer.number ≡ 0) (q : entry_of (step_at (with_ending y s) xs).read ≡ some e) (p : (step_at (with_ending y s) xs).text ≡ t) where
@@ -110,7 +111,7 @@ module _ (s : State) (e : Entry) (t : List ℕ) (h : length t ≡ 35) where
     line_is = written_again (with_ending y s) xs not_empty z e q ∙ ap (line_for (with_ending y s) e) p ∙ line_ended y s e t
 
     -- the reader takes what is written, and goes on as after the line that was read
-    step_again : answered (step_at s (line_for s e t)).answer (step_at s (line_for s e t)).next ≡ answered (step_at (with_ending y s) xs).answer (with_ending (Some CrLf) (step_at (with_ending y s) xs).next)
+    step_again : (step_at s (line_for s e t)).answer ≡ (step_at (with_ending y s) xs).answer × (step_at s (line_for s e t)).next ≡ with_ending (Some CrLf) (step_at (with_ending y s) xs).next
     step_again =
         let k = line_taken.kind in
         let l = ended_with crlf xs in
@@ -118,10 +119,10 @@ module _ (s : State) (e : Entry) (t : List ℕ) (h : length t ≡ 35) where
         let r = read_taken (with_ending y s) xs k not_empty line_taken.is in
         let w =
         ap (step_at s) (sym line_is) ∙ read_taken s l k h (taken_ended y s line_taken crlf o)
-        ∙ ap₂ (λ c m. read_as s c k (fields_of k m)) (line_cut crlf l (is_ended line_taken crlf)) (fifty_first line_taken crlf) in
-        ap (λ (v : LineRead). answered v.answer v.next) w
-        ∙ ap (λ v. answered (acceptance (s.line + 1)) (with_ending (Some CrLf) v)) (sym (next_ended y s k (fields_of k (take 50 xs))))
-        ∙ sym (ap (λ (v : LineRead). answered v.answer (with_ending (Some CrLf) v.next)) r)
+        ∙ ap₂ (λ c m. read_as s c k (fields_of k m)) (line_cut crlf l (is_ended line_taken crlf)) (fifty_first line_taken crlf) in (
+          ap (λ (v : LineRead). v.answer) w ∙ sym (ap (λ (v : LineRead). v.answer) r),
+          ap (λ (v : LineRead). v.next) w ∙ ap (with_ending (Some CrLf)) (sym (next_ended y s k (fields_of k (take 50 xs)))) ∙ sym (ap (λ (v : LineRead). with_ending (Some CrLf) v.next) r),
+        )
 
     same_line : (cut_of xs).ending ≡ (Some CrLf) → next_line xs ≡ ended_with crlf xs
     same_line c = whole_is y xs line_taken.whole crlf c
@@ -132,13 +133,20 @@ module _ (s : State) (e : Entry) (t : List ℕ) (h : length t ≡ 35) where
       let l = line_for s e t in
       let m = line_is o y xs z q p in
       let r = step_again o y xs z q p in
-      let a : eqb (step_at s l).answer.number 0 ≡ true = eq-eqb (step_at s l).answer.number 0 (ap (λ (v : Written). v.answer.number) r ∙ z) in
+      let k = ap (λ (v : Answer). v.number) r.0 ∙ z in
+      let a : eqb (step_at s l).answer.number 0 ≡ true = eq-eqb (step_at s l).answer.number 0 k in
       let b = le-leb 52 (length out) n in
+      let w = taken (step_at s l) (length out) a b in
       let f = ap (take 52) (filled (step_at s l) l out a b) ∙ take_at l (drop 52 out) 52 (line_52 s e t h) ∙ sym m in
-      record { same_answer = taken s (step_at s l) (length out) a b ∙ r; same_characters = f; same_bytes = λ c. f ∙ sym (same_line o y xs z q p c) }
+      record {
+        same_answer = ap answer_of w ∙ ap (λ m. acceptance m) (read_line s e t h k) ∙ sym (ap (λ (v : LineRead). v.answer) (read_back s e t h k)) ∙ r.0;
+        same_state = w ∙ rw r.1 refl;
+        same_characters = f;
+        same_bytes = λ c. f ∙ sym (same_line o y xs z q p c);
+      }
 
 -- of the function's own result
-module _ {l o : List ℕ} {w : Written} (s : State) (e : Entry) (t out : List ℕ) (p : l ≡ line_for s e t) (a : w ≡ written_by s (length out) (step_at s l)) (b : o ≡ room_by (step_at s l) l out) where
+module _ {l o : List ℕ} {w : Result State Answer} (s : State) (e : Entry) (t out : List ℕ) (p : l ≡ line_for s e t) (a : w ≡ written_by (length out) (step_at s l)) (b : o ≡ room_by (step_at s l) l out) where
   is_answer : w ≡ written_of s e t (length out)
   is_answer = answer_via s e t p (length out) a
 

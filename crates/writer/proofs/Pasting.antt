@@ -5,6 +5,7 @@ use mathlib.Core.List.{List, ◌++◌}
 use native.Mathlib.Omega.{arith}
 use borrow.Author.Tests.{eq-eqb, ne_eqb, le-leb, lt-leb}
 use lib.ListN.{length, drop}
+use Rattle.std.proofs.Common.{Result, Ok, Err}
 use Rattle.machine.specs.Lists.{pick, put_in}
 use Rattle.format.specs.Answers.{refusal}
 use Rattle.format.specs.declared.Answer.{Answer}
@@ -13,24 +14,23 @@ use Rattle.reading.specs.Step.{step_at}
 use Rattle.reading.specs.declared.State.{State}
 use Rattle.reading.specs.declared.LineRead.{LineRead}
 use Rattle.writer.specs.Entries.{line_for}
-use Rattle.writer.specs.Writing.{answered, written_by, room_by, written_of, room_of}
+use Rattle.writer.specs.Writing.{written_by, room_by, written_of, room_of}
 use Rattle.writer.specs.declared.Entry.{Entry}
-use Rattle.writer.specs.declared.Written.{Written}
 
 -- ## By what the reader says
 
-module _ {r x : LineRead} (s : State) (room : ℕ) (e : r ≡ x) where
-  pub by_refusal : {w : Written} → (r.answer.number ≡ 0 → ⊥) → w ≡ answered r.answer s → w ≡ written_by s room x
+module _ {r x : LineRead} (room : ℕ) (e : r ≡ x) where
+  pub by_refusal : (r.answer.number ≡ 0 → ⊥) → Err r.answer ≡ written_by room x
   unfolding pick
-  by_refusal z h = h ∙ sym (ap (written_by s room) (sym e) ∙ rw (ne_eqb _ _ z))
+  by_refusal z = sym (ap (written_by room) (sym e) ∙ rw (ne_eqb _ _ z))
 
-  pub by_room : {w : Written} {a : Answer} → r.answer.number ≡ 0 → room < 52 → a ≡ refusal 12 r.answer.line 0 → w ≡ answered a s → w ≡ written_by s room x
+  pub by_room : {a : Answer} → r.answer.number ≡ 0 → room < 52 → a ≡ refusal 12 r.answer.line 0 → Err a ≡ written_by room x
   unfolding pick
-  by_room z l f h = h ∙ ap (λ a. answered a s) f ∙ sym (ap (written_by s room) (sym e) ∙ rw (eq-eqb _ _ z, lt-leb 52 room l))
+  by_room z l f = rw f (sym (ap (written_by room) (sym e) ∙ rw (eq-eqb _ _ z, lt-leb 52 room l)))
 
-  pub by_acceptance : {w : Written} → r.answer.number ≡ 0 → 52 ≤ room → w ≡ answered r.answer r.next → w ≡ written_by s room x
+  pub by_acceptance : r.answer.number ≡ 0 → 52 ≤ room → Ok r.next ≡ written_by room x
   unfolding pick
-  by_acceptance z l h = h ∙ sym (ap (written_by s room) (sym e) ∙ rw (eq-eqb _ _ z, le-leb 52 room l))
+  by_acceptance z l = sym (ap (written_by room) (sym e) ∙ rw (eq-eqb _ _ z, le-leb 52 room l))
 
 module _ {r x : LineRead} {o : List ℕ} (line out : List ℕ) (e : r ≡ x) where
   pub room_refused : (r.answer.number ≡ 0 → ⊥) → o ≡ out → o ≡ room_by x line out
@@ -48,9 +48,9 @@ module _ {r x : LineRead} {o : List ℕ} (line out : List ℕ) (e : r ≡ x) whe
 -- ## The writer
 
 module _ {l : List ℕ} (s : State) (e : Entry) (t : List ℕ) (p : l ≡ line_for s e t) where
-  pub answer_via : {w : Written} (room : ℕ) → w ≡ written_by s room (step_at s l) → w ≡ written_of s e t room
+  pub answer_via : {w : Result State Answer} (room : ℕ) → w ≡ written_by room (step_at s l) → w ≡ written_of s e t room
   unfolding written_of
-  answer_via room h = h ∙ ap (λ m. written_by s room (step_at s m)) p
+  answer_via room h = h ∙ ap (λ m. written_by room (step_at s m)) p
 
   pub room_via : {o : List ℕ} (out : List ℕ) → o ≡ room_by (step_at s l) l out → o ≡ room_of s e t out
   unfolding room_of

@@ -1,14 +1,14 @@
 -- Fields put into a line. Assumes nothing.
-use Prim.Native.Nat.{ℕ, zero, suc, ◌-◌, ◌*◌, ◌/◌, ◌≤◌, ◌<◌}
-use mathlib.Core.Path.{◌≡◌, refl, sym, ◌∙◌, ap, subst}
+use Prim.Native.Nat.{ℕ, zero, suc, ◌-◌, ◌*◌, ◌^◌, ◌≤◌, ◌<◌}
+use mathlib.Core.Path.{◌≡◌, refl, sym, ◌∙◌, ap}
 use mathlib.Core.List.{List}
 use mathlib.Core.Bool.{Bool, true, false}
 use native.Mathlib.Omega.{arith}
-use borrow.Author.Rules.{rules}
-use borrow.Author.Tests.{lt-ltb, le-ltb, ltb-true, ltb-false, ne_eqb}
+use borrow.Author.Tests.{lt-ltb}
 use lib.ListN.{length, take, drop, length-drop}
 use lib.Seq.{take_all}
-use lib.Dec.{eqb, ltb}
+use Rattle.std.proofs.Math.Nat.{pow-succ'}
+use lib.Dec.{ltb}
 use Rattle.machine.specs.Lists.{pick, all, is_space, put_in}
 use Rattle.machine.specs.Digits.{pow10, decimal}
 use Rattle.machine.proofs.Digits.{length_decimal, decimal_last}
@@ -19,25 +19,16 @@ use Rattle.writer.specs.Encoding.{unfit, number_in, text_in}
 
 -- ## Whether a number has so many digits
 
-tenth : (r p : ℕ) (q : Bool) → ltb (r / 10) p ≡ q → ltb r (10 * p) ≡ q
-tenth r p true e = lt-ltb r (10 * p) (let k = ltb-true (r / 10) p e in omega arith)
-tenth r p false e = le-ltb r (10 * p) (let k = ltb-false (r / 10) p e in omega arith)
+power : (w : ℕ) → pow10 w ≡ 10 ^ w
+power zero = refl
+power (suc w) = ap (λ p. 10 * p) (power w) ∙ sym (pow-succ' 10 w)
 
-pub within_more : (b : Bool) (rest i : ℕ) → b ≡ ltb rest (pow10 i) → 0 < i → b ≡ ltb (rest / 10) (pow10 (i - 1))
-within_more b rest zero e k = absurd (omega arith)
-within_more b rest (suc j) e k = let q : j ≡ suc j - 1 = omega arith in subst (λ m. b ≡ ltb (rest / 10) (pow10 m)) q (e ∙ tenth rest (pow10 j) (ltb (rest / 10) (pow10 j)) refl)
+-- below the power where that is a number of the machine, and else always
+pub below_power : {limit : ℕ} (n w : ℕ) → limit ≡ 10 ^ w → ltb n limit ≡ ltb n (pow10 w)
+below_power n w e = ap (ltb n) (e ∙ sym (power w))
 
-pub within_all : (b : Bool) (rest i : ℕ) → b ≡ ltb rest (pow10 i) → i ≤ 0 → eqb rest 0 ≡ b
-within_all b zero zero e k = sym e
-within_all b (suc r) zero e k = ne_eqb (suc r) 0 (λ z. omega arith) ∙ sym (le-ltb (suc r) 1 (omega arith)) ∙ sym e
-within_all b rest (suc i) e k = absurd (omega arith)
-
-pub ruleset counts = (within_more, within_all, rules)
-
--- ## Texts as they are given
-
-pub given_text : {s t x : List ℕ} (line : List ℕ) (at : ℕ) → s ≡ t → x ≡ put_in line at s → x ≡ put_in line at t
-given_text line at e h = h ∙ ap (put_in line at) e
+pub below_every : (n w : ℕ) → n < 2 ^ 64 → (10 ^ w < 2 ^ 64 → ⊥) → true ≡ ltb n (pow10 w)
+below_every n w h k = sym (ap (ltb n) (power w) ∙ lt-ltb n (10 ^ w) (omega arith))
 
 -- ## What a field cannot carry
 
@@ -67,5 +58,3 @@ module _ {x p : List ℕ} {b : Bool} {y : Part} (line : List ℕ) (k : Kind) (t 
   pub text_unfit : b ≡ false → x ≡ put_in line y.at (unfit y.width) → x ≡ put_in line (text_part k).at (text_in (text_part k).width t)
   unfolding text_in pick
   text_unfit c h = own (rw (beyond y.width t d e, c) h)
-
-pub ruleset carries = (number_fits, number_unfit, text_fits, text_unfit, rules)

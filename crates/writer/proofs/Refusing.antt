@@ -26,10 +26,11 @@ use Rattle.reading.specs.declared.State.{State}
 use Rattle.reading.specs.Step.{Judged}
 use Rattle.writer.specs.Encoding.{Given, Givens, encode_field, encode_fields}
 use Rattle.writer.specs.Entries.{kind_of, given_for, line_for}
-use Rattle.writer.specs.Writing.{answered, written_by, written_of}
+use Rattle.writer.specs.Writing.{written_by, written_of}
 use Rattle.writer.specs.Promises.{is_unfit, unfit_from, unfit_column, RefusedBy, RefusesUnfit}
 use Rattle.writer.specs.declared.Entry.{Entry}
-use Rattle.writer.specs.declared.Written.{Written}
+use Rattle.std.proofs.Common.{Result, IsErrAnd}
+use Rattle.format.specs.declared.Answer.{Answer}
 use Rattle.writer.proofs.Pasting.{answer_via}
 use Rattle.reading.proofs.Answers.{step_judged}
 use Rattle.record.proofs.Coding.{code_found}
@@ -170,14 +171,12 @@ module _ (s : State) (e : Entry) (t : List ℕ) (h : length t ≡ 35) (z : unfit
   step_stops : Stopped (unfit_column s e t) (step_at s (line_for s e t)).answer.number (step_at s (line_for s e t)).answer.column
   step_stops = let r = step_judged s (line_for s e t) (omega (arith, line_52 s e t h)) in rw (r.0, r.1) first_stops
 
-  refused_by : (room : ℕ) → RefusedBy (unfit_column s e t) (written_of s e t room)
+  refused_by : (room : ℕ) → IsErrAnd (written_of s e t room) (RefusedBy (unfit_column s e t))
   unfolding written_of pick
   refused_by room =
       let f = step_stops in
-      let r = step_at s (line_for s e t) in
-      let w : written_by s room r ≡ answered r.answer s = rw (ne_eqb r.answer.number 0 f.some) in
-      subst (RefusedBy (unfit_column s e t)) (sym w) (record { refused = f.some; no_further = f.no_later; form_there = f.there })
+      rw (ne_eqb (step_at s (line_for s e t)).answer.number 0 f.some) (record { refused = f.some; no_further = f.no_later; form_there = f.there })
 
-pub unfit_via : {l : List ℕ} {w : Written} (s : State) (e : Entry) (t : List ℕ) (room : ℕ) → l ≡ line_for s e t → w ≡ written_by s room (step_at s l) → length t ≡ 35 → RefusesUnfit s e t w
+pub unfit_via : {l : List ℕ} {w : Result State Answer} (s : State) (e : Entry) (t : List ℕ) (room : ℕ) → l ≡ line_for s e t → w ≡ written_by room (step_at s l) → length t ≡ 35 → RefusesUnfit s e t w
 unfolding RefusesUnfit
-unfit_via s e t room p a h = λ z. subst (RefusedBy (unfit_column s e t)) (sym (answer_via s e t p room a)) (refused_by s e t h z room)
+unfit_via s e t room p a h = λ z. rw (answer_via s e t p room a) (refused_by s e t h z room)

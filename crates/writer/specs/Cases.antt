@@ -1,6 +1,6 @@
 -- Cases of the writer: what cannot be carried is refused at its column, the order of the answers, and 01's case 6 of what is written.
 use Rattle.format.specs.declared.LineEnd.TheVariants.{CrLf, Lf}
-use Rattle.std.specs.Prelude.{ℕ, ◌+◌, ◌-◌, ◌≡◌, List, [], ◌∷◌, ◌++◌, true, false, take, drop, replicate, Some}
+use Rattle.std.specs.Prelude.{ℕ, ◌+◌, ◌-◌, ◌≡◌, List, [], ◌∷◌, ◌++◌, true, false, take, drop, replicate, Some, Result, Ok, Err}
 use Rattle.machine.specs.Lists.{spaces}
 use Rattle.format.specs.Answers.{refusal, acceptance}
 use Rattle.format.specs.declared.Answer.{Answer}
@@ -17,10 +17,9 @@ use Rattle.reading.specs.declared.Name.TheVariants.{Unwanted, Due}
 use Rattle.reading.specs.declared.State.{State}
 use Rattle.writer.specs.Encoding.{line_end}
 use Rattle.writer.specs.Entries.{line_for}
-use Rattle.writer.specs.Writing.{written_of}
+use Rattle.writer.specs.Writing.{answer_of, written_of}
 use Rattle.writer.specs.declared.Entry.{Entry}
 use Rattle.writer.specs.declared.Entry.TheVariants.{FileHeader, BatchHeader, Transaction, PaymentReference, NameBeneficiary, BatchTrailer, FileTrailer}
-use Rattle.writer.specs.declared.Written.{Written}
 
 -- a text of so many letters
 abbrev pub letters : ℕ → List ℕ
@@ -47,9 +46,17 @@ salary_of amount = Transaction (record { kind = Salary; amount = amount; payer =
 abbrev pub unchecked_to : ℕ → Entry
 unchecked_to beneficiary = Transaction (record { kind = UncheckedCreditor; amount = 1; payer = 123456789; beneficiary = beneficiary })
 
+-- the state after it
+abbrev pub after : State → Result State Answer → State
+after s (Ok next) = next
+after s (Err a) = s
+
 -- with so much room
 abbrev pub Answers : State → Entry → List ℕ → ℕ → Answer → Type 0
-Answers s e t room a = (written_of s e t room).answer ≡ a
+Answers s e t room a = answer_of (written_of s e t room) ≡ a
+
+abbrev pub next_of : State → Entry → List ℕ → State
+next_of s e t = after s (written_of s e t 52)
 
 -- after the ordering party of a batch of an account, and after an item of one cent of it
 abbrev pub ordered_of : ℕ → State
@@ -63,20 +70,23 @@ ordered_of account =
       item = no_item;
     }
 
-abbrev pub after_cent : ℕ → ℕ → Written
-after_cent payer beneficiary = written_of (ordered_of payer) (Transaction (record { kind = Salary; amount = 1; payer = payer; beneficiary = beneficiary })) (letters 0) 52
+abbrev pub cent : ℕ → ℕ → Entry
+cent payer beneficiary = Transaction (record { kind = Salary; amount = 1; payer = payer; beneficiary = beneficiary })
+
+abbrev pub after_cent : ℕ → ℕ → State
+after_cent payer beneficiary = next_of (ordered_of payer) (cent payer beneficiary) (letters 0)
 
 -- the two accounts of a batch's one item, their sum, and the ten digits of it with which the trailer is written, and accepted
 pub record SumWritten (payer beneficiary sum : ℕ) (digits : List ℕ) : Type 0 where
   pub sum_of : payer + beneficiary ≡ sum
-  pub item_written : (after_cent payer beneficiary).answer ≡ acceptance 4
-  pub digits_written : take 10 (drop 23 (line_for (after_cent payer beneficiary).next BatchTrailer (letters 0))) ≡ digits
-  pub trailer_written : Answers (after_cent payer beneficiary).next BatchTrailer (letters 0) 52 (acceptance 5)
+  pub item_written : Answers (ordered_of payer) (cent payer beneficiary) (letters 0) 52 (acceptance 4)
+  pub digits_written : take 10 (drop 23 (line_for (after_cent payer beneficiary) BatchTrailer (letters 0))) ≡ digits
+  pub trailer_written : Answers (after_cent payer beneficiary) BatchTrailer (letters 0) 52 (acceptance 5)
 
 pub record Cases : Type 0 where
   pub header : Answers start_state (FileHeader 150309 1501 1) (letters 5) 52 (acceptance 1)
   -- it fixes 13, 10
-  pub header_fixes : (written_of start_state (FileHeader 150309 1501 1) (letters 5) 52).next.before.ending ≡ (Some CrLf)
+  pub header_fixes : (next_of start_state (FileHeader 150309 1501 1) (letters 5)).before.ending ≡ (Some CrLf)
   pub no_room : Answers start_state (FileHeader 150309 1501 1) (letters 5) 51 (refusal 12 1 0)
   -- 12 only where nothing else applies
   pub refused_first : Answers start_state (FileHeader 150309 1501 1) (letters 6) 51 (refusal 4 1 20)
@@ -115,7 +125,7 @@ pub record Cases : Type 0 where
   pub same_end : Answers (with_ending (Some CrLf) (batch_at 5 stage.Closed Unwanted)) FileTrailer (letters 0) 52 (acceptance 6)
   pub beyond_limits : Answers (batch_at 7000000000 stage.Closed Unwanted) FileTrailer (letters 0) 52 (refusal 24 0 0)
   -- 02's [5], 'The writer's state gets the same two numbers': a trailer that is written adds to them; 24 above either limit, and not at both
-  pub trailer_totals : (written_of (batch_after (record { items = 2; amount = 152550 }) 4 stage.Item Unwanted) BatchTrailer (letters 0) 52).next.totals ≡ record { items = 3; amount = 167550 }
+  pub trailer_totals : (next_of (batch_after (record { items = 2; amount = 152550 }) 4 stage.Item Unwanted) BatchTrailer (letters 0)).totals ≡ record { items = 3; amount = 167550 }
   pub largest_totals : Answers (batch_after (record { items = 999900000; amount = 45373483806849099 }) 5 stage.Closed Unwanted) FileTrailer (letters 0) 52 (acceptance 6)
   pub items_beyond : Answers (batch_after (record { items = 999900001; amount = 0 }) 5 stage.Closed Unwanted) FileTrailer (letters 0) 52 (refusal 24 0 0)
   pub amount_beyond : Answers (batch_after (record { items = 0; amount = 45373483806849100 }) 5 stage.Closed Unwanted) FileTrailer (letters 0) 52 (refusal 24 0 0)

@@ -8,8 +8,8 @@ ghost use Rattle.writer.specs.Promises.{ReadsBack, WritesAgain, RefusesUnfit};
 ghost use Rattle.writer.specs.Writing.{written_by, room_by, written_of, room_of};
 
 use field::bytes::put;
+use fields::Line;
 use format::{Answer, Group};
-use lines::entry_line;
 use reading::State;
 use record::Transaction;
 
@@ -48,44 +48,29 @@ pub enum Entry {
     FileTrailer,
 }
 
-// What a record to write is answered, and the state after it.
-#[derive(Clone, Copy)]
-pub struct Written {
-    pub answer: Answer,
-    pub next: State,
-}
-
 // A line that the reader accepts is written where there is room.
-fn write_line(state: State, line: [u8; 52], out: &mut [u8]) -> Written
-    ensures answer { result ≡ written_by state (length out.old) (step_at state line) }
-    ensures bytes { out.new ≡ room_by (step_at state line) line out.old }
+fn write_line(state: State, line: Line, out: &mut [u8]) -> Result<State, Answer>
+    ensures answer { result ≡ written_by (length out.old) (step_at state line.bytes) }
+    ensures bytes { out.new ≡ room_by (step_at state line.bytes) line.bytes out.old }
 {
-    let r = state.line(&line);
-    let answer = r.answer;
-    let next = r.next;
-    if answer.number != 0 {
-        return Written {
-            answer,
-            next: state,
-        };
+    let r = state.line(&line.bytes);
+    if r.answer.number != 0 {
+        return Err(r.answer);
     }
     if out.len() < LINE {
-        return Written {
-            answer: Answer::refusal(format::NO_ROOM, answer.line, 0),
-            next: state,
-        };
+        return Err(Answer::refusal(format::NO_ROOM, r.answer.line, 0));
     }
-    put(&line, 0, out);
-    Written { answer, next }
+    put(&line.bytes, 0, out);
+    Ok(r.next)
 }
 
-// Writes one record after those so far: its answer, and the state after it.
-pub fn write(state: State, entry: Entry, text: [u8; 35], out: &mut [u8]) -> Written
+// Writes one record after those so far: the state after it, or the refusal.
+pub fn write(state: State, entry: Entry, text: [u8; 35], out: &mut [u8]) -> Result<State, Answer>
     ensures answer { result ≡ written_of state entry text (length out.old) }
     ensures bytes { out.new ≡ room_of state entry text out.old }
     ensures read_back { ReadsBack state entry text result out.new }
     ensures written_again { WritesAgain state entry text (length out.old) result out.new }
     ensures unfit { RefusesUnfit state entry text result }
 {
-    write_line(state, entry_line(state, entry, text), out)
+    write_line(state, entry.line(state, text), out)
 }

@@ -3,10 +3,10 @@ use Rattle.std.proofs.Common.{rules}
 use Rattle.format.specs.Arrival.{is_possible}
 use Rattle.field.proofs.arrival.is_possible.Goals as goal
 
-pub returns-in-NotGiven : goal.returns-in-NotGiven
+pub returns-in-None : goal.returns-in-None
 unfolding is_possible
-returns-in-NotGiven c = search rules
+returns-in-None c = search rules
 
-pub returns-in-On : goal.returns-in-On
+pub returns-in-Some : goal.returns-in-Some
 unfolding is_possible
-returns-in-On c = search rules
+returns-in-Some c = search rules

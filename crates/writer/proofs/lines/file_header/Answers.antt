@@ -1,6 +1,6 @@
 -- What lines::file_header ensures, by the laws of Building.
-use Rattle.writer.proofs.Building.{builds}
+use Rattle.writer.proofs.Building.{file_header_is}
 use Rattle.writer.proofs.lines.file_header.Goals as goal
 
 pub returns : goal.returns
-returns c = search builds depth 20 fits 10000
+returns c = search file_header_is depth 2
