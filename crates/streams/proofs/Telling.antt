@@ -9,6 +9,9 @@ use Rattle.std.specs.IoError.{error_kind}
 use Rattle.std.specs.declared.io.Error.{Error}
 use Rattle.std.specs.declared.io.ErrorKind.{ErrorKind}
 use Rattle.std.specs.declared.io.ErrorKind.TheVariants.{BrokenPipe}
+use Rattle.std.specs.declared.env.FillError.TheVariants.{NotPresent}
+use mathlib.Core.Bool.{false}
+use Rattle.streams.specs.Opened.{is_given}
 use Rattle.streams.specs.Status.{failed_by, printed_of}
 use Rattle.streams.specs.declared.output.Printed.TheVariants.{Whole, Failed, Unread}
 
@@ -32,3 +35,6 @@ module _ {A : Type 0} {w : Result A Error} where
 
 pub prefix_length : {w : Result ℕ FillError} (n : ℕ) (xs : List ℕ) → WritesAtMost w xs → w ≡ Ok n → n ≡ length (take n xs)
 prefix_length n xs h e = sym (length-take-le n xs (subst (λ v. WritesAtMost v xs) e h))
+
+pub given_not : {r : Result ℕ FillError} {x : FillError} → r ≡ Err x → x ≡ NotPresent → false ≡ is_given r
+given_not e h = sym (ap is_given e ∙ ap (λ y. is_given (Err y)) h)

@@ -151,5 +151,11 @@ pub fn each_input<P: Program>(rt: &HostRuntime, first: usize, program: &mut P) -
 pub fn is_given(read: Result<usize, FillError>) -> bool
     ensures { result ≡ is_given read }
 {
-    !matches!(read, Err(FillError::NotPresent))
+    match read {
+        Ok(_) => true,
+        Err(e) => match e {
+            FillError::NotPresent => false,
+            FillError::TooLong => true,
+        },
+    }
 }
