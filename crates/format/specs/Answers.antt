@@ -1,5 +1,6 @@
 -- The answers of 01 and 02 by name, and an answer with its line and column.
 use Rattle.std.specs.Prelude.{Bool, ◌||◌, ℕ, leb, eqb, Result, Ok, Err}
+use Rattle.format.specs.Rules.{untimely_date}
 use Rattle.format.specs.declared.Answer.{Answer}
 use Rattle.format.specs.declared.Refusal.{Refusal}
 use Rattle.format.specs.declared.Refusal.TheVariants.{BrokenLine, UnknownRecord, MisplacedRecord, WrongForm, WrongValue, WrongAccount, Differs, AboveMaximum, WrongTrailer, EndsEarly, AfterTrailer, NoRoom, NoSuchItem, OrdinaryAccount, UntimelyDate, BeyondLimits}
@@ -62,10 +63,6 @@ no_such_item = 13
 -- 'unchecked type with an account of nine or ten digits' (02)
 abbrev pub ordinary_account : ℕ
 ordinary_account = 14
-
--- '21, fewer than zero or more than 30 days' (02)
-abbrev pub untimely_date : ℕ
-untimely_date = 21
 
 -- 'a state handed in' beyond 01's limits
 abbrev pub beyond_limits : ℕ

@@ -1,8 +1,7 @@
 -- NOT MORE THAN THIRTY DAYS AHEAD (02): days by the calendar, and the desired dates that an arrival date lets pass.
 use Rattle.std.specs.Prelude.{Bool, true, ◌&&◌, ◌||◌, List, [], ◌∷◌, ℕ, zero, suc, ◌+◌, ◌-◌, ◌/◌, ◌%◌, T, eqb, ℤ, pos, ◌-ℤ◌, Some, None, Option}
 use Rattle.std.specs.Int.Signed.{le_z}
-use Rattle.format.specs.Rules.{days_in, is_date}
-use Rattle.format.specs.Answers.{untimely_date}
+use Rattle.format.specs.Rules.{days_in, is_date, untimely_date}
 use Rattle.format.specs.Tests.{Test, test}
 
 -- ## Days by the calendar

@@ -76,6 +76,10 @@ is_date d = in_range 1 12 (d / 100 % 100) && in_range 1 (days_in (d / 100 % 100)
 unfoldable pub is_desired_date : ℕ → Bool
 is_desired_date d = eqb d 0 || is_date d
 
+-- '21, fewer than zero or more than 30 days' (02), which no file is answered yet
+abbrev pub untimely_date : ℕ
+untimely_date = 21
+
 -- ## Identification: the creation day, then a counter 01 to 99
 
 unfoldable pub is_identification : List ℕ → Bool

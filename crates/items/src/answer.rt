@@ -1,6 +1,5 @@
 // The answer to one who asks for an item.
 ghost use Rattle.std.specs.Prelude.{◌≡◌, length};
-ghost use Rattle.format.specs.Rules.{is_type};
 ghost use Rattle.items.specs.Search.{no_fields};
 ghost use Rattle.items.specs.Answering.{answered, texts_found, answered_by, room_by, is_within, answered_at};
 ghost use Rattle.items.specs.Answering.{room_at, item_of, room_after};
@@ -9,17 +8,8 @@ ghost use Rattle.items.specs.Promises.{Promised};
 use crate::{Found, ItemRead, Search, no_fields};
 use descriptions::merge;
 use field::bytes::put;
-use format::{Answer, TransactionType};
+use format::Answer;
 use record::Batch;
-
-fn is_found(kind: Option<TransactionType>) -> bool
-    ensures { result ≡ is_type kind }
-{
-    match kind {
-        Some(_) => true,
-        None => false,
-    }
-}
 
 fn refused(answer: Answer) -> ItemRead
     ensures { result ≡ answered answer no_fields }
@@ -58,7 +48,7 @@ impl Search {
             return refused(file);
         }
         let fields = self.found.fields;
-        if !is_found(fields.kind) {
+        if fields.kind.is_none() {
             return refused(Answer::refusal(format::NO_SUCH_ITEM, file.line, 0));
         }
         if out.len() < 128 {

@@ -114,7 +114,7 @@ text_for CityBeneficiary x = no_text
 text_for BatchTrailer x = no_text
 text_for FileTrailer x = no_text
 
--- ## The fields of any line, where a numeric field that is not digits counts as 0. (Some an accepted line they are its fields.)
+-- ## The fields of any line, where a numeric field that is not digits counts as 0. (Of an accepted line they are its fields.)
 
 abbrev pub value_in : (f : Field) → List ℕ → Value f
 value_in (numeric w) l = (digits_of l).value

@@ -10,11 +10,11 @@ pub returns-then-file-ne0-clause-bytes : goal.returns-then-file-ne0-clause-bytes
 returns-then-file-ne0-clause-bytes c = search room_refused depth 2
 
 -- no such item
-pub returns-then-not-is_found-clause-answer : goal.returns-then-not-is_found-clause-answer
-returns-then-not-is_found-clause-answer c = search by_none depth 2
+pub returns-then-is_none-clause-answer : goal.returns-then-is_none-clause-answer
+returns-then-is_none-clause-answer c = search by_none depth 2
 
-pub returns-then-not-is_found-clause-bytes : goal.returns-then-not-is_found-clause-bytes
-returns-then-not-is_found-clause-bytes c = search room_none depth 2
+pub returns-then-is_none-clause-bytes : goal.returns-then-is_none-clause-bytes
+returns-then-is_none-clause-bytes c = search room_none depth 2
 
 -- a room that is too small
 pub returns-then-out-lt128-clause-answer : goal.returns-then-out-lt128-clause-answer
