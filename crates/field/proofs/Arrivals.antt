@@ -1,7 +1,7 @@
 -- Days of months and years, the day number's bounds, and signed days apart. Assumes nothing.
 use Rattle.std.specs.Prelude.{Some, None}
 use Prim.Native.Nat.{ℕ, zero, suc, ◌+◌, ◌-◌, ◌*◌, ◌/◌, ◌%◌, ◌≤◌, ◌<◌}
-use mathlib.Core.Path.{◌≡◌, refl, sym, ◌∙◌, ap, ap₂, subst}
+use mathlib.Core.Path.{◌≡◌, refl, sym, ◌∙◌, ap, ap₂}
 use mathlib.Core.Bool.{Bool, true, false, cond, ◌||◌}
 use native.Mathlib.Omega.{arith}
 use borrow.Author.Tests.{eqb-true, eqb-false, ne_eqb}
@@ -136,9 +136,6 @@ module _ (a d : ℕ) (k : is_date a ≡ true) (h : is_date d ≡ true) {x y : �
 
   plain_fits : SFits w32 (pos (day_number d) -ℤ pos (day_number a))
   plain_fits = let i = diff_mag (day_number d) (day_number a) in let p = number_le d h in let q = number_le a k in record { sfits = omega (arith, i, p, q) }
-
-  ahead_fits : SFits w32 (read x -ℤ read y)
-  ahead_fits = subst (SFits w32) (sym plain) plain_fits
 
   pub ahead_is : read (read x -ℤ read y) ≡ days_ahead a d
   unfolding days_ahead

@@ -4,7 +4,7 @@ use mathlib.Core.Path.{◌≡◌, refl, sym, ◌∙◌, ap}
 use mathlib.Core.List.{List, [], ◌∷◌, ◌++◌}
 use native.Mathlib.Omega.{arith}
 use lib.ListN.{length, take, drop, length-take, length-replicate, length-append}
-use lib.Seq.{length-take-le}
+use lib.Seq.{length-take-le, take_all}
 use Rattle.machine.specs.Lists.{spaces, put_in}
 use Rattle.field.specs.Filled.{filled_to}
 use Rattle.field.proofs.Putting.{put_front}
@@ -25,6 +25,10 @@ first_filled {p} n t e h =
     let k : length (take n t) ≤ n = rw length-take (omega arith) in
     let f : length p ≤ length (spaces n) = rw (length-replicate, e) k in
     put_front (spaces n) p f h ∙ ap (λ y. y ++ drop (length y) (spaces n)) e ∙ sym (filled_is n n t (omega arith))
+
+-- all of a text that fits
+pub filled_short : (n : ℕ) (t : List ℕ) → length t ≤ n → filled_to n t ≡ put_in (spaces n) 0 t
+filled_short n t h = sym (first_filled n t (sym (take_all n t h)) refl)
 
 pub filled_long : (n : ℕ) (t : List ℕ) → length (filled_to n t) ≡ n
 filled_long n t = length-take-le n (t ++ spaces n) (omega (arith, length-append t (spaces n), length-replicate {A = ℕ} n 32))

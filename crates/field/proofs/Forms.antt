@@ -16,10 +16,6 @@ module _ {p : List ℕ} {x : ℕ} (f : Field) (ts : List Test) (l : List ℕ) (d
   unfolding field_answer pick
   form_yes h e = rw (← d, h) e
 
-  pub form_no : well_formed f p ≡ false → x ≡ 4 → x ≡ field_answer f ts l
-  unfolding field_answer pick
-  form_no h e = rw (← d, h) e
-
 -- a field without tests, and with them
 module _ {r : ℕ} (f : Field) (ts : List Test) (l : List ℕ) (e : r ≡ field_answer f [] l) where
   pub form_stop : (r ≡ 0 → ⊥) → r ≡ field_answer f ts l

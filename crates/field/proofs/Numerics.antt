@@ -16,12 +16,12 @@ use Rattle.machine.specs.Lists.{pick, all, is_digit}
 use Rattle.machine.specs.Digits.{pow10, value_after, value_of}
 use Rattle.machine.proofs.Base.{and_first, and_second}
 use Rattle.format.specs.Fields.{numeric}
-use Rattle.format.specs.Tests.{Test, test, range_tests}
+use Rattle.format.specs.Tests.{Test, test}
 use Rattle.format.proofs.Checks.{read_field_lem}
 use Rattle.field.specs.Leaf.{Digits}
 use Rattle.field.specs.Leaf.{Numeric}
 use Rattle.field.specs.Rows.{first_answer, field_answer}
-use Rattle.field.specs.Leaf.{no_digits, digits_of, wrong_as, right_of, numeric_by, numeric_answer, numeric_of, tested_by}
+use Rattle.field.specs.Leaf.{no_digits, digits_of, wrong_as, right_of, numeric_by, numeric_answer, numeric_of}
 use Rattle.field.proofs.Picks.{picks, by_call}
 
 -- ## The next of the digits that are left
@@ -138,66 +138,6 @@ first_of_lem (test false n ∷ ts) v h = by (eqb n 0) h.0
     by true t = absurd t
     by false t = refl
 
--- a numeric field by what the digits are
-no_by : (tests : ℕ → List Test) (l : List ℕ) → pick (digits_of l).ok (first_answer (tests (digits_of l).value)) 4 ≡ numeric_answer tests l
-unfolding digits_of numeric_answer field_answer pick
-no_by tests l = by (leb (length l) 18) (all is_digit l)
-  where
-    by : (q u : Bool) → pick (pick (q && u) (record { ok = true; value = value_of l }) no_digits).ok (first_answer (tests (pick (q && u) (record { ok = true; value = value_of l }) no_digits).value)) 4 ≡ pick q (pick u (first_answer (tests (value_of l))) 4) 4
-    by true true = refl
-    by true false = refl
-    by false u = refl
-
-of_by : (tests : ℕ → List Test) (l : List ℕ) → ((v : ℕ) → Numbered (tests v)) → pick (digits_of l).ok (first_of (tests (digits_of l).value) (digits_of l).value) (wrong_as 4) ≡ numeric_of tests l
-unfolding digits_of numeric_of numeric_answer field_answer pick
-of_by tests l h = by (leb (length l) 18) (all is_digit l)
-  where
-    by : (q u : Bool) → pick (pick (q && u) (record { ok = true; value = value_of l }) no_digits).ok (first_of (tests (pick (q && u) (record { ok = true; value = value_of l }) no_digits).value) (pick (q && u) (record { ok = true; value = value_of l }) no_digits).value) (wrong_as 4)
-        ≡ numeric_by (pick q (pick u (first_answer (tests (value_of l))) 4) 4) (value_of l)
-    by true true = first_of_lem (tests (value_of l)) (value_of l) (h (value_of l))
-    by true false = refl
-    by false u = refl
-
-module _ {d : Digits} (tests : ℕ → List Test) (l : List ℕ) where
-  pub no_via : {x : ℕ} → d ≡ digits_of l → x ≡ pick d.ok (first_answer (tests d.value)) 4 → x ≡ numeric_answer tests l
-  no_via e h = h ∙ rw e (no_by tests l)
-
-  pub of_via : {x : Numeric} → ((v : ℕ) → Numbered (tests v)) → d ≡ digits_of l → x ≡ pick d.ok (first_of (tests d.value) d.value) (wrong_as 4) → x ≡ numeric_of tests l
-  of_via n e h = h ∙ rw e (of_by tests l n)
-
-pub ruleset vias = (no_via, of_via, picks)
-
--- digits in a range
-module _ {x : Numeric} (low high : ℕ) (d : Digits) where
-  pub range_not : d.ok ≡ false → x ≡ wrong_as 4 → x ≡ tested_by (range_tests low high) d
-  unfolding tested_by pick
-  range_not e h = h ∙ rw e
-
-  module _ (e : d.ok ≡ true) where
-    pub range_low : d.value < low → x ≡ wrong_as 5 → x ≡ tested_by (range_tests low high) d
-    unfolding tested_by pick
-    range_low l h = h ∙ rw (e, lt-leb low d.value l)
-
-    pub range_high : low ≤ d.value → high < d.value → x ≡ wrong_as 5 → x ≡ tested_by (range_tests low high) d
-    unfolding tested_by pick
-    range_high l u h = h ∙ rw (e, le-leb low d.value l, lt-leb d.value high u)
-
-    pub range_in : low ≤ d.value → d.value ≤ high → x ≡ right_of d.value → x ≡ tested_by (range_tests low high) d
-    unfolding tested_by pick
-    range_in l u h = h ∙ rw (e, le-leb low d.value l, le-leb d.value high u)
-
-pub ruleset ranges = (range_not, range_low, range_high, range_in, rules)
-
--- a field by its digits
-pub tested_of : {d : Digits} {x : Numeric} (tests : ℕ → List Test) (l : List ℕ) → d ≡ digits_of l → x ≡ tested_by tests d → x ≡ numeric_of tests l
-unfolding tested_by digits_of numeric_of numeric_answer field_answer pick
-tested_of tests l e h = h ∙ ap (tested_by tests) e ∙ by (leb (length l) 18) (all is_digit l)
-  where
-    by : (q u : Bool) → tested_by tests (pick (q && u) (record { ok = true; value = value_of l }) no_digits) ≡ numeric_by (pick q (pick u (first_answer (tests (value_of l))) 4) 4) (value_of l)
-    by true true = refl
-    by true false = refl
-    by false u = refl
-
 -- where nothing is wrong there are digits
 pub is_digits : (tests : ℕ → List Test) (l : List ℕ) → numeric_answer tests l ≡ 0 → all is_digit l ≡ true
 unfolding numeric_answer field_answer pick
@@ -286,9 +226,3 @@ module _ (base tests : ℕ → List Test) (l : List ℕ) (h : (v : ℕ) → Exte
     pub of_on : {x : Numeric} → ((v : ℕ) → Numbered (after (base v) (tests v))) → f.number ≡ 0 → x ≡ first_of (after (base f.value) (tests f.value)) f.value → x ≡ numeric_of tests l
     unfolding pick
     of_on n z k = k ∙ first_of_lem (after (base f.value) (tests f.value)) f.value (n f.value) ∙ sym (rw (of_more, ← value, ← number, eq-eqb _ 0 z))
-
--- what a call answered, handed on
-pub is_right : (f : Numeric) → f.number ≡ 0 → f ≡ right_of f.value
-is_right f z = ap (λ (n : ℕ). record { number = n; value = f.value }) z
-
-pub ruleset mores = (no_stop, no_on, of_stop, of_on, is_right, picks)

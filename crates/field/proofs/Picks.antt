@@ -1,8 +1,7 @@
 -- A result that a definition picks by tests, from what the code's branches say of the tests. Assumes nothing.
-use mathlib.Core.Path.{◌≡◌, sym, ◌∙◌, subst}
+use mathlib.Core.Path.{◌≡◌, sym, ◌∙◌}
 use mathlib.Core.Bool.{Bool, true, false, ◌&&◌, ◌||◌}
 use borrow.Author.Tests.{lt-ltb, le-ltb, le-leb, lt-leb, eq-eqb, ne_eqb}
-use lib.Dec.{T}
 use Rattle.machine.specs.Lists.{pick}
 
 module _ {A : Type 0} {x : A} (b : Bool) (t e : A) where
@@ -13,25 +12,6 @@ module _ {A : Type 0} {x : A} (b : Bool) (t e : A) where
   pub pick_no : b ≡ false → x ≡ e → x ≡ pick b t e
   unfolding pick
   pick_no h p = rw h p
-
-module _ {A : Type 0} {x : A} (b d : Bool) (t e : A) where
-  pub pick_both : (b && d) ≡ true → x ≡ t → x ≡ pick b (pick d t e) e
-  unfolding pick
-  pick_both h p = by b d h
-    where
-      by : (b d : Bool) → (b && d) ≡ true → x ≡ pick b (pick d t e) e
-      by true true h = p
-      by true false h = absurd (subst T (sym h) tt)
-      by false d h = absurd (subst T (sym h) tt)
-
-  pub pick_not_both : (b && d) ≡ false → x ≡ e → x ≡ pick b (pick d t e) e
-  unfolding pick
-  pick_not_both h p = by b d h
-    where
-      by : (b d : Bool) → (b && d) ≡ false → x ≡ pick b (pick d t e) e
-      by true true h = absurd (subst T h tt)
-      by true false h = p
-      by false d h = p
 
 -- ## What a test is
 

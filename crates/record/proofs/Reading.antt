@@ -25,7 +25,9 @@ use Rattle.field.proofs.Results.{digits_alone}
 use Rattle.format.specs.declared.Refusal.{Refusal}
 use Rattle.field.specs.Rows.{Row, part_at, first_answer, field_answer, rows_at, check_rows, fields_at, first_or}
 use Rattle.field.specs.Leaf.{digits_of}
+use Rattle.field.specs.Filled.{filled_to}
 use Rattle.field.proofs.Numerics.{digits_are}
+use Rattle.field.proofs.Filling.{filled_short}
 use Rattle.record.specs.Faults.{fault_at, no_fault, first_fault, fields_of, tests_for, maxima_for, fault_of}
 use Rattle.record.specs.Read.{transaction_for, transaction_record, record_for, no_text, padded, text_part, text_for, value_in, values_at, values_of, header_for}
 use Rattle.record.specs.Faults.{Fault}
@@ -72,9 +74,15 @@ pub text_stands : (k : Kind) (line : List ℕ) → padded (take (text_part k).wi
 unfolding padded put_in pasted pick
 text_stands k line = every (λ k. padded (take (text_part k).width (drop (text_part k).at line)) ≡ text_for k (values_of k line)) refl refl refl refl refl refl refl refl refl refl refl refl refl refl k
 
-pub text_put : {q : Part} {p o : List ℕ} (k : Kind) (line : List ℕ) → q ≡ text_part k → p ≡ take q.width (drop q.at line) → o ≡ put_in no_text 0 p → o ≡ text_for k (values_of k line)
+text_short : (k : Kind) → (text_part k).width ≤ 35
+text_short k = every (λ k. (text_part k).width ≤ 35) (omega arith) (omega arith) (omega arith) (omega arith) (omega arith) (omega arith) (omega arith) (omega arith) (omega arith) (omega arith) (omega arith) (omega arith) (omega arith) (omega arith) k
+
+pub text_put : {q : Part} {p o : List ℕ} (k : Kind) (line : List ℕ) → q ≡ text_part k → p ≡ take q.width (drop q.at line) → o ≡ filled_to 35 p → o ≡ text_for k (values_of k line)
 unfolding padded
-text_put k line q e h = h ∙ ap (put_in no_text 0) (e ∙ ap (λ (r : Part). take r.width (drop r.at line)) q) ∙ text_stands k line
+text_put k line q e h =
+    let p = text_part k in
+    h ∙ ap (filled_to 35) (e ∙ ap (λ (r : Part). take r.width (drop r.at line)) q)
+    ∙ filled_short 35 (take p.width (drop p.at line)) (rw length-take (omega (arith, text_short k))) ∙ text_stands k line
 
 -- ## For users: the values of an accepted line are its fields
 

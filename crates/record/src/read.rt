@@ -8,7 +8,8 @@ ghost use Rattle.record.specs.Read.{values_of};
 
 use crate::types::{group_in, type_in};
 use crate::{Record, Transaction, TransactionFields};
-use field::bytes::{is_same, part, put};
+use field::bytes::{is_same, part};
+use field::filled::filled_to;
 use field::numbers::digits_at;
 use format::{Kind, TransactionType, codes};
 
@@ -155,8 +156,6 @@ pub fn text_part(kind: Kind) -> Part
 pub fn text_in(kind: Kind, line: &[u8]) -> [u8; 35]
     ensures { result ≡ text_for kind (values_of kind line.now) }
 {
-    let p = text_part(kind);
-    let mut t = [32u8; 35];
-    put(part(line, p.at, p.width), 0, &mut t);
-    t
+    let text = text_part(kind);
+    filled_to(part(line, text.at, text.width))
 }
