@@ -2,7 +2,7 @@
 use Prim.Native.Nat.{ℕ}
 use mathlib.Core.Path.{◌≡◌, refl, sym, ap, ◌∙◌}
 use mathlib.Core.List.{List, [], ◌∷◌}
-use mathlib.Core.Bool.{Bool, true}
+use mathlib.Core.Bool.{true}
 use lib.ListN.{take}
 use lib.Dec.{eqb, leb}
 use Rattle.machine.specs.Lists.{pick}
@@ -14,7 +14,7 @@ use Rattle.format.specs.Tests.{Test}
 use Rattle.format.specs.declared.Refusal.{Refusal}
 use Rattle.format.specs.declared.Refusal.TheVariants.{BrokenLine, UnknownRecord, MisplacedRecord, WrongForm, WrongValue, WrongAccount, Differs, AboveMaximum, WrongTrailer, EndsEarly, AfterTrailer, NoRoom, NoSuchItem, OrdinaryAccount, UntimelyDate, BeyondLimits}
 use Rattle.field.specs.Rows.{Row, row, field_answer, first_or}
-use Rattle.field.specs.Leaf.{Numeric, numeric_of, numeric_read}
+use Rattle.field.specs.Leaf.{numeric_of, numeric_read}
 use Rattle.field.proofs.Results.{HandedOn, handed, refused}
 use Rattle.field.proofs.Rows.{row_this, row_next, no_row, of_row, of_value}
 use Rattle.record.specs.Faults.{Fault, fault_at, no_fault, fault_read, at_column}

@@ -29,7 +29,7 @@ use Rattle.field.specs.Filled.{filled_to}
 use Rattle.field.proofs.Numerics.{digits_are}
 use Rattle.field.proofs.Filling.{filled_short}
 use Rattle.record.specs.Faults.{fault_at, no_fault, first_fault, fields_of, tests_for, maxima_for, fault_of}
-use Rattle.record.specs.Read.{transaction_for, transaction_record, record_for, no_text, padded, text_part, text_for, value_in, values_at, values_of, header_for}
+use Rattle.record.specs.Read.{transaction_for, transaction_record, record_for, padded, text_part, text_for, value_in, values_at, values_of, header_for}
 use Rattle.record.specs.Faults.{Fault}
 use Rattle.record.specs.declared.Before.{Before}
 use Rattle.record.specs.declared.Batch.{Batch}

@@ -88,8 +88,14 @@ pub(crate) fn batch_trailer(line: &[u8], batch: Batch) -> Result<(), Fault>
     ensures { fault_read result ≡ fields_fault BatchTrailer
         (batch_trailer_tests batch.total batch.accounts batch.items) line.now }
 {
-    at(6, total_answer(line, 5, 18, 1, Batch::MAX_TOTAL, batch.total))?;
+    at(
+        6,
+        total_answer(line, 5, 18, 1, Batch::MAX_TOTAL, batch.total),
+    )?;
     at(24, equal_answer(line, 23, 10, batch.accounts))?;
-    at(34, total_answer(line, 33, 7, 1, Batch::MAX_ITEMS, batch.items))?;
+    at(
+        34,
+        total_answer(line, 33, 7, 1, Batch::MAX_ITEMS, batch.items),
+    )?;
     at(41, filler_answer(line, 40, 10))
 }

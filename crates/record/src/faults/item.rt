@@ -23,7 +23,13 @@ fn amount_in(line: &[u8]) -> Result<u64, Refusal>
 fn payer_in(line: &[u8], t: Option<TransactionType>, group: Group, own: u64) -> Result<u64, Refusal>
     ensures { numeric_read result ≡ numeric_of (payer_tests group own t) (part_at 22 10 line.now) }
 {
-    party(line, 21, group == Group::Payments, own, is_unchecked_type(t))
+    party(
+        line,
+        21,
+        group == Group::Payments,
+        own,
+        is_unchecked_type(t),
+    )
 }
 
 fn beneficiary_in(
