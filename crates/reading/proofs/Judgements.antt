@@ -21,7 +21,7 @@ use Rattle.format.specs.declared.Kind.{Kind}
 use Rattle.format.specs.declared.Kind.TheVariants.{FileHeader, BatchHeaderB, BatchHeaderC, FixedDescription, OrderingParty, Transaction, NamePayer, CityPayer, PaymentReference, Description, NameBeneficiary, CityBeneficiary, BatchTrailer, FileTrailer}
 use Rattle.format.specs.declared.Cut.{Cut}
 use Rattle.record.specs.Kinds.{is_transaction, is_batch_trailer, code_of}
-use Rattle.record.specs.Faults.{fields_of, maxima_fault, fault_of, other_fault, fault_read, at_column}
+use Rattle.record.specs.Faults.{fields_of, maxima_fault, fault_of, other_fault, fault_read}
 use Rattle.record.specs.Read.{transaction_for, transaction_of, values_of, fields_read}
 use Rattle.record.specs.declared.Before.{Before}
 use Rattle.record.specs.declared.Batch.{Batch}
@@ -30,8 +30,6 @@ use Rattle.record.specs.declared.Fault as code
 use Rattle.record.specs.declared.TransactionFields.{TransactionFields}
 use Rattle.record.specs.Read.{TransactionRead}
 use Rattle.field.proofs.Results as Results
-use Rattle.field.proofs.Results.{HandedOn, handed}
-use Rattle.record.proofs.Columns.{at_number, at_fault}
 use Rattle.record.proofs.Reading.{valued}
 use Rattle.format.proofs.Every.{every}
 use Rattle.record.proofs.BatchFaults.{header_bounded, identified_bounded}
@@ -39,11 +37,10 @@ use Rattle.record.proofs.ItemFaults.{transaction_read, transaction_refused, tran
 use Rattle.reading.specs.State.{are_within, within, Bounded, Limited}
 use Rattle.reading.specs.Bounds.{Small, Going, halt_at}
 use Rattle.reading.specs.Order.{is_stage, may_fix, may_text, may_describe, allowed}
-use Rattle.reading.specs.Step.{with_batch, next_for, paid, refused, taken, judged_by, judged_as, judged_kind, judged_code, judged_line, with_ending, with_cut, is_done, judged_first, state_read, taken_read}
+use Rattle.reading.specs.Step.{with_batch, next_for, paid, refused, taken, judged_by, judged_as, judged_kind, judged_code, judged_line, with_ending, with_cut, is_done, judged_first, taken_with}
 use Rattle.reading.specs.declared.Stage.TheVariants.{Opened, Closed}
 use Rattle.reading.specs.declared.State.{State}
 use Rattle.reading.specs.Step.{Judged}
-use Rattle.reading.specs.declared.Taken.{Taken}
 use denote.Enum.Bare.{sameb}
 use Rattle.reading.proofs.Limits.{bounded_facts, bounded_test, within_limited, going_on_lem, on_line, on_limited}
 use Rattle.reading.proofs.Verdicts.{next_totals, is_trailer, First, beyond, halted, moved, first}
@@ -58,8 +55,8 @@ module _ {A : Type 0} {f : code.Fault} (g : Result A code.Fault) (w : g ≡ Err 
   stops : (fault_read g).number ≡ 0 → ⊥
   stops z = Results.refused f.refusal (sym number ∙ z)
 
-  as_state : (s : State) (k : Kind) (r : Result State code.Fault) → HandedOn r f → state_read s k r ≡ refused s (fault_read g).column (fault_read g).number
-  as_state s k r i = ap (state_read s k) (handed r i) ∙ ap (λ (h : Fault). refused s h.column h.number) (sym (ap fault_read w))
+  there : (s : State) → refused s f.column (number_of f.refusal) ≡ refused s (fault_read g).column (fault_read g).number
+  there s = ap (λ (h : Fault). refused s h.column h.number) (sym (ap fault_read w))
 
 passed : {A : Type 0} {x : A} (g : Result A code.Fault) → g ≡ Ok x → (fault_read g).number ≡ 0
 passed {A} g w = ap (λ (r : Result A code.Fault). (fault_read r).number) w
@@ -104,10 +101,19 @@ module _ {r : TransactionRead} (s : State) (line : List ℕ) (e : r ≡ transact
 
 pub ruleset pays = (pay_refused, pay_above, pay_taken)
 
+module _ {x : Judged} (c : Cut) (j : Judged) where
+  pub cut_stop : (s : State) (f : code.Fault) → x ≡ refused s f.column (number_of f.refusal) → refused s f.column (number_of f.refusal) ≡ j → x ≡ with_cut c j
+  unfolding with_cut pick
+  cut_stop s f e h = rw (← h, ne_eqb (number_of f.refusal) 0 (Results.refused f.refusal)) e
+
+  pub cut_done : (k : Kind) (u : State) → x ≡ taken_with c (taken k u) → taken k u ≡ j → x ≡ with_cut c j
+  unfolding with_cut pick
+  cut_done k u e h = rw (← h) e
+
 module _ (s : State) (line : List ℕ) (g : Result TransactionFields code.Fault) (e : fields_read g ≡ transaction_of s.before.group s.batch.account line) where
-  pub fields_handed : {f : code.Fault} (r : Result State code.Fault) → g ≡ Err f → HandedOn r f → state_read s Transaction r ≡ judged_as s Transaction line
-  fields_handed {f} r w i =
-      pay_refused s line e (λ z. Results.refused f.refusal (sym (ap (λ (q : Result TransactionFields code.Fault). (fields_read q).number) w) ∙ z)) (ap (state_read s Transaction) (handed r i) ∙ ap (λ (t : TransactionRead). refused s t.column t.number) (sym (ap fields_read w)))
+  pub fields_wrong : (f : code.Fault) → g ≡ Err f → refused s f.column (number_of f.refusal) ≡ judged_as s Transaction line
+  fields_wrong f w =
+      pay_refused s line e (λ z. Results.refused f.refusal (sym (ap (λ (q : Result TransactionFields code.Fault). (fields_read q).number) w) ∙ z)) (ap (λ (t : TransactionRead). refused s t.column t.number) (sym (ap fields_read w)))
 
   module _ {t : TransactionFields} (w : g ≡ Ok t) where
     nothing : (fields_read g).number ≡ 0
@@ -123,20 +129,18 @@ module _ (s : State) (line : List ℕ) (g : Result TransactionFields code.Fault)
       maxima : fault_read h ≡ maxima_fault s.batch (fields_read g).read.amount
       maxima = m ∙ ap (λ (q : TransactionFields). maxima_fault s.batch q.amount) (sym read)
 
-      pub maxima_handed : {f : code.Fault} (r : Result State code.Fault) → h ≡ Err f → HandedOn r f → state_read s Transaction r ≡ judged_as s Transaction line
-      maxima_handed r v i = pay_above s line e nothing maxima (stops h v) (as_state h v s Transaction r i)
+      pub maxima_wrong : (f : code.Fault) → h ≡ Err f → refused s f.column (number_of f.refusal) ≡ judged_as s Transaction line
+      maxima_wrong f v = pay_above s line e nothing maxima (stops h v) (there h v s)
 
       pub fields_paid : {o : ⊤} {u : State} → h ≡ Ok o → u ≡ paid s t → taken Transaction u ≡ judged_as s Transaction line
       fields_paid v q = pay_taken s line e nothing maxima (passed h v) (q ∙ ap (paid s) (sym read))
-
-pub ruleset payments = (fields_handed, maxima_handed, fields_paid)
 
 module _ (s : State) (k : Kind) (line : List ℕ) (o : is_transaction k ≡ false) (g : Result ⊤ code.Fault) (e : fault_read g ≡ other_fault s.before s.batch k line) where
   fault : fault_read g ≡ fault_of s.before s.batch k line
   fault = other_fault_lem s k line o e
 
-  pub other_handed : {f : code.Fault} (r : Result State code.Fault) → g ≡ Err f → HandedOn r f → state_read s k r ≡ judged_as s k line
-  other_handed r w i = as_refused s k line fault (stops g w) (as_state g w s k r i)
+  pub other_wrong : (f : code.Fault) → g ≡ Err f → refused s f.column (number_of f.refusal) ≡ judged_as s k line
+  other_wrong f w = as_refused s k line fault (stops g w) (there g w s)
 
   pub other_taken : {x : ⊤} {u : State} → g ≡ Ok x → u ≡ next_for s k (values_of k line) → taken k u ≡ judged_as s k line
   other_taken w q = as_taken s k line fault (passed g w) q
@@ -153,38 +157,31 @@ is_tag = every (λ k. sameb kind.the_type k Transaction ≡ is_transaction k) re
 pub no_transaction : {b : Bool} (k : Kind) → b ≡ sameb kind.the_type k Transaction → b ≡ false → is_transaction k ≡ false
 no_transaction k e h = sym (is_tag k) ∙ sym e ∙ h
 
-module _ {b : Bool} (s : State) (k : Kind) (line : List ℕ) (e : b ≡ allowed s k) where
-  pub kind_pays : {t : Bool} (r : Result State code.Fault) → b ≡ true → t ≡ sameb kind.the_type k Transaction → t ≡ true → state_read s Transaction r ≡ judged_as s Transaction line → state_read s k r ≡ judged_kind s k line
+module _ {b : Bool} {x : Judged} (c : Cut) (s : State) (k : Kind) (line : List ℕ) (e : b ≡ allowed s k) where
+  pub kind_pays : {t : Bool} → b ≡ true → t ≡ sameb kind.the_type k Transaction → t ≡ true → x ≡ with_cut c (judged_as s Transaction line) → x ≡ with_cut c (judged_kind s k line)
   unfolding judged_kind pick
-  kind_pays r h i j w = let m = is_transaction_lem k (sym (is_tag k) ∙ sym i ∙ j) in rw (← e, h) (subst (λ l. state_read s l r ≡ judged_as s l line) (sym m) w)
+  kind_pays h i j w = rw (← e, h) (w ∙ ap (λ m. with_cut c (judged_as s m line)) (sym (is_transaction_lem k (sym (is_tag k) ∙ sym i ∙ j))))
 
-  pub kind_reads : (r : Result State code.Fault) → b ≡ true → state_read s k r ≡ judged_as s k line → state_read s k r ≡ judged_kind s k line
+  pub kind_reads : b ≡ true → x ≡ with_cut c (judged_as s k line) → x ≡ with_cut c (judged_kind s k line)
   unfolding judged_kind pick
-  kind_reads r h w = rw (← e, h) w
+  kind_reads h w = rw (← e, h) w
 
-  pub kind_stops : b ≡ false → refused s 1 3 ≡ judged_kind s k line
-  unfolding judged_kind pick
-  kind_stops h = rw (← e, h)
+  pub kind_stops : b ≡ false → x ≡ refused s 1 3 → x ≡ with_cut c (judged_kind s k line)
+  unfolding judged_kind with_cut pick
+  kind_stops h w = rw (← e, h) w
 
 pub ruleset kinds = (kind_pays, kind_reads, kind_stops)
 
-module _ {o : Code} (s : State) (line : List ℕ) (c : Cut) (e : o ≡ code_of (take 5 line)) where
-  pub code_unknown : o ≡ None → refused s 1 2 ≡ with_cut c (judged_line s line)
+module _ {o : Code} {x : Judged} (c : Cut) (s : State) (line : List ℕ) (e : o ≡ code_of (take 5 line)) where
+  pub code_known : {k : Kind} → o ≡ Some k → x ≡ with_cut c (judged_kind s k line) → x ≡ with_cut c (judged_line s line)
+  unfolding judged_line
+  code_known f h = h ∙ ap (λ q. with_cut c (judged_code s line q)) (sym f ∙ e)
+
+  pub code_unknown : o ≡ None → x ≡ refused s 1 2 → x ≡ with_cut c (judged_line s line)
   unfolding judged_line with_cut pick
-  code_unknown f = rw (← e, f)
+  code_unknown f h = rw (← e, f) h
 
-  module _ {k : Kind} (f : o ≡ Some k) (g : Result State code.Fault) (w : state_read s k g ≡ judged_kind s k line) where
-    known : judged_line s line ≡ state_read s k g
-    unfolding judged_line
-    known = ap (judged_code s line) (sym e ∙ f) ∙ sym w
-
-    pub code_handed : {x : code.Fault} (r : Result Taken code.Fault) → g ≡ Err x → HandedOn r x → taken_read s r ≡ with_cut c (judged_line s line)
-    unfolding with_cut pick
-    code_handed {x} r v i = ap (taken_read s) (handed r i) ∙ sym (rw (known, v, ne_eqb (number_of x.refusal) 0 (Results.refused x.refusal)))
-
-    pub code_taken : {u v : State} → g ≡ Ok u → v ≡ with_ending c.ending u → ◌≡◌ {A = Judged} (record { number = 0; column = 0; bytes = c.bytes; code = Some k; next = v }) (with_cut c (judged_line s line))
-    unfolding with_cut pick
-    code_taken q h = rw (known, q, h)
+pub ruleset codes = (code_known, code_unknown)
 
 -- ## The first line
 
@@ -206,33 +203,33 @@ module _ (s : State) (xs : List ℕ) where
         by true false i z = absurd (z i)
         by false b i z = ap (refused s 0) i
 
-  module _ (g : Result ⊤ Refusal) (h : Result ⊤ code.Fault) (e : number_in g ≡ halt_at s) (a : h ≡ at_column 0 g) where
-    by_halt : (fault_read h).number ≡ number_in g
-    by_halt = ap (λ (r : Result ⊤ code.Fault). (fault_read r).number) a ∙ at_number 0 g
+  module _ (g : Result ⊤ Refusal) (e : number_in g ≡ halt_at s) where
+    pub halt_stops : {x : Judged} (r : Refusal) → g ≡ Err r → x ≡ refused s 0 (number_of r) → x ≡ judged_first s xs
+    halt_stops r w h = h ∙ first_halted (sym (ap number_in w) ∙ e) (Results.refused r)
 
-    pub halt_handed : {f : code.Fault} (r : Result Taken code.Fault) → h ≡ Err f → HandedOn r f → taken_read s r ≡ judged_first s xs
-    halt_handed {f} r w i =
-        let z : number_in g ≡ 0 → ⊥ = λ z. stops h w (by_halt ∙ z) in
-        ap (taken_read s) (handed r i) ∙ ap (λ (t : Fault). refused s t.column t.number) (sym (ap fault_read w) ∙ ap fault_read a ∙ at_fault 0 g z) ∙ first_halted e z
-
-    module _ {x : ⊤} (w : h ≡ Ok x) where
-      halted_not : number_in g ≡ 0
-      halted_not = sym by_halt ∙ passed h w
-
+    module _ (z : number_in g ≡ 0) where
       pub going_line : s.line ≤ 6999369995
-      going_line = on_line s e halted_not
+      going_line = on_line s e z
 
       pub going_limited : Limited s
-      going_limited = on_limited s e halted_not
+      going_limited = on_limited s e z
 
-      module _ {k : Cut} (i : k ≡ cut_of xs) {o : Bool} (f : o ≡ is_open s.before.ending k.ending) where
-        pub first_judged : {p : List ℕ} (r : Result Taken code.Fault) → o ≡ true → p ≡ take 50 xs → taken_read s r ≡ with_cut k (judged_line s p) → taken_read s r ≡ judged_first s xs
+      module _ {x : Judged} {k : Cut} (i : k ≡ cut_of xs) {o : Bool} (f : o ≡ is_open s.before.ending k.ending) where
+        pub first_judged : {p : List ℕ} → o ≡ true → p ≡ take 50 xs → x ≡ with_cut k (judged_line s p) → x ≡ judged_first s xs
         unfolding judged_first pick
-        first_judged r u q v = let w = going_on_lem s e halted_not in rw (w.0, w.1, ← i, ← f, u) (v ∙ ap (λ l. with_cut k (judged_line s l)) q)
+        first_judged u q v = let w = going_on_lem s e z in rw (w.0, w.1, ← i, ← f, u) (v ∙ ap (λ l. with_cut k (judged_line s l)) q)
 
-        pub first_broken : (r : Result Taken code.Fault) → o ≡ false → r ≡ Err (record { refusal = BrokenLine; column = 0 }) → taken_read s r ≡ judged_first s xs
+        pub first_broken : o ≡ false → x ≡ refused s 0 1 → x ≡ judged_first s xs
         unfolding judged_first pick
-        first_broken r u v = let w = going_on_lem s e halted_not in rw (w.0, w.1, ← i, ← f, u) (ap (taken_read s) v)
+        first_broken u v = let w = going_on_lem s e z in rw (w.0, w.1, ← i, ← f, u) v
+
+-- where a call refused nothing
+pub not_refused : (g : Result ⊤ Refusal) → ((r : Refusal) → g ≡ Err r → ⊥) → number_in g ≡ 0
+not_refused (Ok x) n = refl
+not_refused (Err r) n = absurd (n r refl)
+
+pub no_fault : {o : ⊤} (g : Result ⊤ Refusal) → g ≡ Ok o → number_in g ≡ 0
+no_fault g w = ap number_in w
 
 -- ## The limits after a line
 

@@ -1,6 +1,6 @@
 -- Lines one after the other, and the line reader over the first. Assumes nothing.
 use Prim.Native.Nat.{ℕ, ◌+◌, ◌-◌, ◌≤◌, ◌<◌}
-use mathlib.Core.Path.{◌≡◌, refl, sym, ap, ◌∙◌}
+use mathlib.Core.Path.{◌≡◌, refl, sym, ap, ◌∙◌, subst}
 use mathlib.Core.List.{List}
 use native.Mathlib.Omega.{arith}
 use borrow.Author.Tests.{eq-eqb, ne_eqb}
@@ -12,16 +12,17 @@ use Rattle.machine.proofs.Base.{drop_rest}
 use Rattle.format.specs.Cutting.{cut_of, next_line, after_next, lines_in}
 use Rattle.format.proofs.Cutting.{cut_bytes, next_fifty, cut_own, whole_long, lines_first, lines_none}
 use Rattle.reading.specs.Bounds.{Going}
-use Rattle.std.specs.Prelude.{Result, Some, Ok, Err}
+use Rattle.std.specs.Prelude.{Some, None, Ok, Err, is_some}
 use Rattle.field.proofs.Results as Results
 use Rattle.record.specs.declared.Fault as code
-use Rattle.reading.specs.declared.Taken as judged
-use Rattle.reading.specs.Step.{refused, judged_first, Last, lines_read, taken_read}
-use Rattle.reading.proofs.Judgements.{going_after}
+use Rattle.reading.specs.declared.Judged as judged
+use Rattle.reading.specs.declared.Accepted.{Accepted}
+use Rattle.reading.specs.Step.{refused, judged_first, judged_read, number_by, bytes_by, code_by}
 use Rattle.reading.specs.Check.{judged_after}
 use Rattle.reading.specs.declared.State.{State}
 use Rattle.reading.specs.Step.{Judged}
-use Rattle.reading.proofs.Verdicts.{Taken, takes}
+use Rattle.machine.proofs.Base.{true≢false}
+use Rattle.reading.proofs.Verdicts.{Taken, takes, First, beyond, halted, moved, first}
 
 -- the first line is judged by its own bytes alone
 pub first_own : (s : State) (xs : List ℕ) → judged_first s (next_line xs) ≡ judged_first s xs
@@ -85,27 +86,28 @@ module _ {start : State} {bytes : List ℕ} {last : Judged} {at : ℕ} {j : Judg
 
 -- ### By what the judging of a line hands out
 
-module _ {start : State} {bytes p : List ℕ} (last : Last) {next : State} {at : ℕ} (r : Running start bytes (lines_read last next) at) (l : at < length bytes) (g : Result judged.Taken code.Fault) (d : p ≡ take (length bytes - at) (drop at bytes)) (e : taken_read next g ≡ judged_first next p) where
-  by_slice : taken_read next g ≡ judged_first next (take (length bytes - at) (drop at bytes))
-  by_slice = e ∙ ap (judged_first next) d
+-- where nothing is refused of a line, it has a code
+pub coded : (s : State) (xs : List ℕ) (j : Judged) → j ≡ judged_first s xs → j.number ≡ 0 → j.code ≡ None → ⊥
+coded s xs j e = by (subst (First s xs) (sym e) (first s xs))
+  where
+    by : {j : Judged} → First s xs j → j.number ≡ 0 → j.code ≡ None → ⊥
+    by (beyond w) z e = let q : ◌≡◌ {A = ℕ} 24 0 = z in omega arith
+    by (halted w c n y) z e = y z
+    by (moved w k c a f) z e = true≢false (ap is_some e)
 
-  pub loop_stop : {f : code.Fault} → g ≡ Err f → lines_read (Err f) next ≡ judged_after (refused start 0 0) (lines_in bytes)
-  loop_stop {f} w =
-      let i : taken_read next g ≡ lines_read (Err f) next = ap (taken_read next) w in
-      run_stop r l (sym i ∙ by_slice) (Results.refused f.refusal)
+module _ {start : State} {bytes : List ℕ} {last : Judged} {at : ℕ} (r : Running start bytes last at) (l : at < length bytes) (j : judged.Judged) (e : judged_read j ≡ judged_first last.next (take (length bytes - at) (drop at bytes))) where
+  pub loop_refused : {f : code.Fault} → j.last ≡ Err f → judged_read j ≡ judged_after (refused start 0 0) (lines_in bytes)
+  loop_refused {f} w = run_stop r l e (λ z. Results.refused f.refusal (sym (ap number_by w) ∙ z))
 
-  module _ {t : judged.Taken} (w : g ≡ Ok t) where
-    it : lines_read (Ok (Some t.line)) t.next ≡ judged_first next (take (length bytes - at) (drop at bytes))
-    it = sym (ap (taken_read next) w) ∙ by_slice
+  pub loop_none : j.last ≡ Ok None → judged_read j ≡ judged_after (refused start 0 0) (lines_in bytes)
+  loop_none w = absurd (coded last.next (take (length bytes - at) (drop at bytes)) (judged_read j) e (ap number_by w) (ap code_by w))
 
-    pub loop_inside : at + t.line.bytes ≤ length bytes
-    loop_inside = run_inside r l it refl
+  module _ {a : Accepted} (w : j.last ≡ Ok (Some a)) where
+    pub loop_inside : at + a.bytes ≤ length bytes
+    loop_inside = subst (λ n. at + n ≤ length bytes) (ap bytes_by w) (run_inside r l e (ap number_by w))
 
-    pub loop_less : length bytes - (at + t.line.bytes) < length bytes - at
-    loop_less = run_less r l it refl
+    pub loop_less : length bytes - (at + a.bytes) < length bytes - at
+    loop_less = subst (λ n. length bytes - (at + n) < length bytes - at) (ap bytes_by w) (run_less r l e (ap number_by w))
 
-    pub loop_more : Running start bytes (lines_read (Ok (Some t.line)) t.next) (at + t.line.bytes)
-    loop_more = run_more r l it refl
-
-    pub loop_going : Going next → Going t.next
-    loop_going = going_after next (take (length bytes - at) (drop at bytes)) it
+    pub loop_more : Running start bytes (judged_read j) (at + a.bytes)
+    loop_more = subst (λ n. Running start bytes (judged_read j) (at + n)) (ap bytes_by w) (run_more r l e (ap number_by w))

@@ -30,7 +30,6 @@ use Rattle.reading.specs.declared.OpenItem.{OpenItem}
 use Rattle.reading.specs.declared.State.{State}
 use Rattle.reading.specs.declared.Judged as code
 use Rattle.reading.specs.declared.Accepted.{Accepted}
-use Rattle.reading.specs.declared.Taken.{Taken}
 use Rattle.record.specs.declared.Fault as handed
 use Rattle.reading.specs.declared.LineRead.{LineRead}
 
@@ -207,14 +206,6 @@ lines_read l next = record { number = number_by l; column = column_by l; bytes =
 
 abbrev pub judged_read : code.Judged → Judged
 judged_read j = lines_read j.last j.next
-
-abbrev pub taken_read : State → Result Taken handed.Fault → Judged
-taken_read s (Ok t) = lines_read (Ok (Some t.line)) t.next
-taken_read s (Err f) = lines_read (Err f) s
-
-abbrev pub state_read : State → Kind → Result State handed.Fault → Judged
-state_read s k (Ok next) = taken k next
-state_read s k (Err f) = refused s f.column (number_of f.refusal)
 
 -- ## THE STEP: what the bytes that remain are answered
 

@@ -62,13 +62,6 @@ pub struct Accepted {
     pub bytes: usize,
 }
 
-// The same, and the state after it.
-#[derive(Clone, Copy)]
-struct Taken {
-    line: Accepted,
-    next: State,
-}
-
 // What the lines of some bytes come to: what the first one that is refused is refused for, or else the last one, which
 // no bytes have; and the state after all that were accepted.
 #[derive(Clone, Copy)]

@@ -1,8 +1,8 @@
-use Rattle.reading.proofs.Judgements.{other_handed, other_taken}
+use Rattle.reading.proofs.Judgements.{cut_done, cut_stop, other_taken, other_wrong}
 use Rattle.reading.proofs.State.judge_as.Goals as goal
 
-pub returns-in_err-fault_in : goal.returns-in_err-fault_in
-returns-in_err-fault_in c = other_handed _ _ _ c.requires.other _ c.fault_in.ensures _ c.in_err-fault_in.was c.from_residual.ensures
+pub returns-in-Ok : goal.returns-in-Ok
+returns-in-Ok c = search (cut_done, other_taken) depth 3
 
-pub returns : goal.returns
-returns c = other_taken _ _ _ c.requires.other _ c.fault_in.ensures c.in_ok-fault_in.was c.after.ensures
+pub returns-in-Err : goal.returns-in-Err
+returns-in-Err c = search (cut_stop, other_wrong) depth 3

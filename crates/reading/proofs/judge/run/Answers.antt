@@ -1,27 +1,25 @@
 use borrow.Author.Rules.{rules}
-use mathlib.Core.Path.{refl}
-use Rattle.reading.proofs.Running.{run_none, run_all, loop_stop, loop_inside, loop_less, loop_more, loop_going}
+use Rattle.reading.proofs.Answers.{last_is}
+use Rattle.reading.proofs.Judgements.{going_after}
+use Rattle.reading.proofs.Running.{run_all, loop_refused, loop_none, loop_inside, loop_less, loop_more}
 use Rattle.reading.proofs.judge.run.Goals as goal
-
-pub loop-at-init : goal.loop-at-init
-loop-at-init c = (c.requires, run_none _ _)
-
-pub judge_first-requires : goal.judge_first-requires
-judge_first-requires c = c.loop-at.invariant.0
 
 pub overflow_add-at : goal.overflow_add-at
 overflow_add-at c =
-    let inside = loop_inside _ c.loop-at.invariant.1 c.loop-at-test.true _ refl c.judge_first.ensures c.in-Ok.is in
+    let inside = loop_inside c.loop-at.invariant.1 c.loop-at-test.true _ c.judge_first-judged.ensures (last_is c.in-Ok.is c.in-Some.is) in
     search rules
 
 pub loop-at-smaller : goal.loop-at-smaller
-loop-at-smaller c = loop_less _ c.loop-at.invariant.1 c.loop-at-test.true _ refl c.judge_first.ensures c.in-Ok.is
+loop-at-smaller c = loop_less c.loop-at.invariant.1 c.loop-at-test.true _ c.judge_first-judged.ensures (last_is c.in-Ok.is c.in-Some.is)
 
 pub loop-at-preserved : goal.loop-at-preserved
-loop-at-preserved c = (loop_going _ c.loop-at.invariant.1 c.loop-at-test.true _ refl c.judge_first.ensures c.in-Ok.is c.loop-at.invariant.0, loop_more _ c.loop-at.invariant.1 c.loop-at-test.true _ refl c.judge_first.ensures c.in-Ok.is)
+loop-at-preserved c = (going_after _ _ c.judge_first-judged.ensures c.loop-at.invariant.0, loop_more c.loop-at.invariant.1 c.loop-at-test.true _ c.judge_first-judged.ensures (last_is c.in-Ok.is c.in-Some.is))
+
+pub returns-in-None : goal.returns-in-None
+returns-in-None c = loop_none c.loop-at.invariant.1 c.loop-at-test.true _ c.judge_first-judged.ensures (last_is c.in-Ok.is c.in-None.is)
 
 pub returns-in-Err : goal.returns-in-Err
-returns-in-Err c = loop_stop _ c.loop-at.invariant.1 c.loop-at-test.true _ refl c.judge_first.ensures c.in-Err.is
+returns-in-Err c = loop_refused c.loop-at.invariant.1 c.loop-at-test.true _ c.judge_first-judged.ensures c.in-Err.is
 
 pub returns : goal.returns
 returns c = run_all c.loop-at.invariant.1 c.loop-at-test.false
