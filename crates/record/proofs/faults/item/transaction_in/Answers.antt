@@ -5,24 +5,49 @@ use Rattle.record.proofs.faults.item.transaction_in.Goals as goal
 
 pub returns-in_err-at : goal.returns-in_err-at
 unfolding transaction_of
-returns-in_err-at c = search (passed, transaction_handed, type_row, number_row, party_row, c.in_err-at.was) depth 8
+returns-in_err-at c = search (passed, transaction_handed,
+    type_row _ _ c.type_in-kind.ensures c.type_answer.ensures,
+    c.in_err-at.was) depth 2
 
 pub returns-in_err-amount : goal.returns-in_err-amount
 unfolding transaction_of
-returns-in_err-amount c = search (passed, transaction_handed, type_row, number_row, party_row, c.in_ok-at.was, c.in_err-amount.was) depth 8
+returns-in_err-amount c = search (passed, transaction_handed,
+    type_row _ _ c.type_in-kind.ensures c.type_answer.ensures,
+    number_row,
+    c.in_ok-at.was, c.in_err-amount.was) depth 3
 
 pub returns-in_err-payer : goal.returns-in_err-payer
 unfolding transaction_of
-returns-in_err-payer c = search (passed, transaction_handed, type_row, number_row, party_row, c.in_ok-at.was, c.in_ok-amount.was, c.in_err-payer.was) depth 8
+returns-in_err-payer c = search (passed, transaction_handed,
+    type_row _ _ c.type_in-kind.ensures c.type_answer.ensures,
+    number_row,
+    party_row _ _ _ _ _ c.type_in-kind.ensures c.payer_in.ensures,
+    c.in_ok-at.was, c.in_ok-amount.was, c.in_err-payer.was) depth 4
 
 pub returns-in_err-beneficiary : goal.returns-in_err-beneficiary
 unfolding transaction_of
-returns-in_err-beneficiary c = search (passed, transaction_handed, type_row, number_row, party_row, c.in_ok-at.was, c.in_ok-amount.was, c.in_ok-payer.was, c.in_err-beneficiary.was) depth 8
+returns-in_err-beneficiary c = search (passed, transaction_handed,
+    type_row _ _ c.type_in-kind.ensures c.type_answer.ensures,
+    number_row,
+    party_row _ _ _ _ _ c.type_in-kind.ensures c.payer_in.ensures,
+    party_row _ _ _ _ _ c.type_in-kind.ensures c.beneficiary_in.ensures,
+    c.in_ok-at.was, c.in_ok-amount.was, c.in_ok-payer.was, c.in_err-beneficiary.was) depth 5 fits 10000
 
 pub returns-in_err-at-2 : goal.returns-in_err-at-2
 unfolding transaction_of
-returns-in_err-at-2 c = search (passed, transaction_handed, type_row, number_row, party_row, c.in_ok-at.was, c.in_ok-amount.was, c.in_ok-payer.was, c.in_ok-beneficiary.was, c.in_err-at-2.was) depth 8
+returns-in_err-at-2 c = search (passed, transaction_handed,
+    type_row _ _ c.type_in-kind.ensures c.type_answer.ensures,
+    number_row,
+    party_row _ _ _ _ _ c.type_in-kind.ensures c.payer_in.ensures,
+    party_row _ _ _ _ _ c.type_in-kind.ensures c.beneficiary_in.ensures,
+    c.in_ok-at.was, c.in_ok-amount.was, c.in_ok-payer.was, c.in_ok-beneficiary.was, c.in_err-at-2.was) depth 6 fits 10000
 
 pub returns : goal.returns
 unfolding transaction_of
-returns c = search (passed, type_row, number_row, party_row, taken, value_handed, c.in_ok-at.was, c.in_ok-amount.was, c.in_ok-payer.was, c.in_ok-beneficiary.was, c.in_ok-at-2.was) depth 9
+returns c = search (passed,
+    type_row _ _ c.type_in-kind.ensures c.type_answer.ensures,
+    number_row,
+    party_row _ _ _ _ _ c.type_in-kind.ensures c.payer_in.ensures,
+    party_row _ _ _ _ _ c.type_in-kind.ensures c.beneficiary_in.ensures,
+    taken c.args.line.now c.type_in-kind.ensures (value_handed _ _ _ _ _ c.amount_in.ensures c.at-2.ensures c.in_ok-amount.was) (value_handed _ _ _ _ _ c.payer_in.ensures c.at-3.ensures c.in_ok-payer.was) (value_handed _ _ _ _ _ c.beneficiary_in.ensures c.at-4.ensures c.in_ok-beneficiary.was),
+    c.in_ok-at.was, c.in_ok-amount.was, c.in_ok-payer.was, c.in_ok-beneficiary.was, c.in_ok-at-2.was) depth 7 fits 10000
