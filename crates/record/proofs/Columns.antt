@@ -48,6 +48,10 @@ module _ {A : Type 0} (c n : ℕ) (g : Result A Refusal) (h : Result A code.Faul
     pub passed : {y : B} → y ≡ first_or f rs a → y ≡ first_or f (row c n ∷ rs) a
     passed k = row_next f c rs a n s (sym is_number ∙ ap (λ (r : Result A code.Fault). (fault_read r).number) w) k
 
+  -- the same for any rows after it
+  pub past : {x : A} → h ≡ Ok x → {B : Type 0} (f : ℕ → ℕ → B) (rs : List Row) (a : B) {y : B} → y ≡ first_or f rs a → y ≡ first_or f (row c n ∷ rs) a
+  past w f rs a k = passed f rs a w k
+
   module _ {k : code.Fault} (w : h ≡ Err k) where
     stops : number_in g ≡ 0 → ⊥
     stops z = refused k.refusal (sym (sym is_number ∙ ap (λ (r : Result A code.Fault). (fault_read r).number) w) ∙ z)
@@ -94,6 +98,9 @@ numeric_number (Err r) = refl
 
 pub number_row : {ts : List Test} (g : Result ℕ Refusal) (tests : ℕ → List Test) (w : ℕ) (m : List ℕ) → numeric_read g ≡ numeric_of tests (take w m) → leb w 18 ≡ true → tests (value_of (take w m)) ≡ ts → number_in g ≡ field_answer (numeric w) ts (take w m)
 number_row g tests w m e h k = numeric_number g ∙ of_row tests w m e h k
+
+pub value_row : (g : Result ℕ Refusal) (tests : ℕ → List Test) (w : ℕ) (m : List ℕ) → numeric_read g ≡ numeric_of tests (take w m) → leb w 18 ≡ true → number_in g ≡ field_answer (numeric w) (tests (value_of (take w m))) (take w m)
+value_row g tests w m e h = number_row g tests w m e h refl
 
 -- the value that a column handed on
 pub value_handed : {v : ℕ} (g : Result ℕ Refusal) (h : Result ℕ code.Fault) (c : ℕ) (tests : ℕ → List Test) (l : List ℕ) → numeric_read g ≡ numeric_of tests l → h ≡ at_column c g → h ≡ Ok v → v ≡ value_of l
