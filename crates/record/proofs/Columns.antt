@@ -2,7 +2,7 @@
 use Prim.Native.Nat.{ℕ}
 use mathlib.Core.Path.{◌≡◌, refl, sym, ap, ◌∙◌}
 use mathlib.Core.List.{List, [], ◌∷◌}
-use mathlib.Core.Bool.{Bool, true}
+use mathlib.Core.Bool.{true}
 use lib.ListN.{take}
 use lib.Dec.{eqb, leb}
 use Rattle.machine.specs.Lists.{pick}
@@ -14,7 +14,7 @@ use Rattle.format.specs.Tests.{Test}
 use Rattle.format.specs.declared.Refusal.{Refusal}
 use Rattle.format.specs.declared.Refusal.TheVariants.{BrokenLine, UnknownRecord, MisplacedRecord, WrongForm, WrongValue, WrongAccount, Differs, AboveMaximum, WrongTrailer, EndsEarly, AfterTrailer, NoRoom, NoSuchItem, OrdinaryAccount, UntimelyDate, BeyondLimits}
 use Rattle.field.specs.Rows.{Row, row, field_answer, first_or}
-use Rattle.field.specs.Leaf.{Numeric, numeric_of, numeric_read}
+use Rattle.field.specs.Leaf.{numeric_of, numeric_read}
 use Rattle.field.proofs.Results.{HandedOn, handed, refused}
 use Rattle.field.proofs.Rows.{row_this, row_next, no_row, of_row, of_value}
 use Rattle.record.specs.Faults.{Fault, fault_at, no_fault, fault_read, at_column}
@@ -47,10 +47,6 @@ module _ {A : Type 0} (c n : ℕ) (g : Result A Refusal) (h : Result A code.Faul
   module _ {B : Type 0} (f : ℕ → ℕ → B) (rs : List Row) (a : B) {x : A} (w : h ≡ Ok x) where
     pub passed : {y : B} → y ≡ first_or f rs a → y ≡ first_or f (row c n ∷ rs) a
     passed k = row_next f c rs a n s (sym is_number ∙ ap (λ (r : Result A code.Fault). (fault_read r).number) w) k
-
-  -- the same for any rows after it
-  pub past : {x : A} → h ≡ Ok x → {B : Type 0} (f : ℕ → ℕ → B) (rs : List Row) (a : B) {y : B} → y ≡ first_or f rs a → y ≡ first_or f (row c n ∷ rs) a
-  past w f rs a k = passed f rs a w k
 
   module _ {k : code.Fault} (w : h ≡ Err k) where
     stops : number_in g ≡ 0 → ⊥
@@ -89,6 +85,11 @@ module _ {A : Type 0} (c n : ℕ) (g : Result A Refusal) (h : Result A code.Faul
       by (Err OrdinaryAccount) = refl
       by (Err UntimelyDate) = refl
       by (Err BeyondLimits) = refl
+
+-- the same for any column and any rows after it
+pub past : {A : Type 0} {n : ℕ} {h : Result A code.Fault} {x : A} (g : Result A Refusal) → number_in g ≡ n → h ≡ Ok x
+    → (c : ℕ) {B : Type 0} (f : ℕ → ℕ → B) (rs : List Row) (a : B) {y : B} → h ≡ at_column c g → y ≡ first_or f rs a → y ≡ first_or f (row c n ∷ rs) a
+past g s w c f rs a e k = passed c _ g _ e s f rs a w k
 
 -- ## Numeric columns
 

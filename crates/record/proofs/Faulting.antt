@@ -18,7 +18,6 @@ use Rattle.format.specs.declared.Kind.{Kind}
 use Rattle.format.specs.declared.Kind.TheVariants.{FileHeader, BatchHeaderB, BatchHeaderC}
 use Rattle.format.specs.declared.Group.{Group}
 use Rattle.field.specs.Rows.{Row, row, part_at, first_answer, field_answer, rows_at, check_rows, first_or}
-use Rattle.field.proofs.Rows.{rows_passed}
 use Rattle.record.specs.Faults.{Fault}
 use Rattle.record.specs.declared.Before.{Before}
 use Rattle.record.specs.declared.Batch.{Batch}

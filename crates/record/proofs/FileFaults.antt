@@ -13,7 +13,7 @@ use Rattle.machine.specs.Digits.{value_of}
 use Rattle.machine.proofs.Base.{and_first, and_second}
 use Rattle.format.specs.Fields.{filled}
 use Rattle.format.specs.Rules.{is_identification, is_of_day}
-use Rattle.format.specs.Tests.{date_tests, identification_tests}
+use Rattle.format.specs.Tests.{identification_tests}
 use Rattle.field.specs.Rows.{field_answer}
 use Rattle.field.specs.Leaf.{digits_of}
 

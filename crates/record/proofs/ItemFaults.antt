@@ -1,26 +1,24 @@
 -- The first fault of a transaction, from what calls answered of its fields, and a batch's maxima. Assumes nothing.
 use Rattle.std.specs.Prelude.{Some, None, Result, Err}
-use Prim.Native.Nat.{ℕ, ◌+◌, ◌-◌, ◌<◌, ◌≤◌, zero-le, min}
-use mathlib.Core.Path.{◌≡◌, refl, sym, ap, ap₂, ◌∙◌}
+use Prim.Native.Nat.{ℕ, ◌+◌, ◌<◌, ◌≤◌, zero-le, min}
+use mathlib.Core.Path.{◌≡◌, refl, sym, ap, ◌∙◌}
 use mathlib.Core.List.{List, [], ◌∷◌}
 use mathlib.Core.Bool.{Bool, true, false}
 use native.Mathlib.Omega.{arith}
-use borrow.Author.Rules.{rules}
 use borrow.Author.Tests.{lt-ltb, le-ltb, le-leb, lt-leb, eq-eqb, ne_eqb, leb-true, ltb-true}
 use lib.ListN.{take, drop}
 use lib.Dec.{eqb, leb, ltb}
 use Rattle.machine.specs.Lists.{pick}
 use Rattle.machine.specs.Digits.{value_of}
-use Rattle.format.specs.Fields.{Field, numeric, filled, filler, width, well_formed}
+use Rattle.format.specs.Fields.{Field, numeric, filled, width, well_formed}
 use Rattle.format.specs.Answers.{above_maximum, number_in}
 use Rattle.format.specs.declared.Refusal.{Refusal}
 use Rattle.format.specs.declared.Refusal.TheVariants.{AboveMaximum}
 use Rattle.format.specs.Records.{layout, type, amount}
-use Rattle.format.specs.Rules.{max_amount, max_total, max_items, max_account, same_group, type_of, is_type, is_unchecked_type, TypeRead}
-use Rattle.format.specs.Tests.{Tests, type_tests, amount_tests, party_tests, payer_tests, beneficiary_tests, transaction_tests}
+use Rattle.format.specs.Rules.{max_amount, max_total, max_items, max_account, type_of, is_type, is_unchecked_type, TypeRead}
+use Rattle.format.specs.Tests.{Tests, type_tests, party_tests, transaction_tests}
 use Rattle.format.specs.declared.Kind.TheVariants.{Transaction}
 use Rattle.format.specs.declared.Group.{Group}
-use Rattle.format.specs.declared.Group.TheVariants.{Payments, Debits}
 use Rattle.field.specs.Rows.{Row, row, part_at, field_answer, rows_at, check_rows, first_or}
 use Rattle.field.specs.Leaf.{numeric_of, numeric_read}
 use Rattle.record.proofs.Columns.{number_row}
