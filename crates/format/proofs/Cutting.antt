@@ -18,6 +18,32 @@ use Rattle.machine.proofs.Lines.{Cuts}
 use Rattle.format.specs.Language.{Ending, crlf, lf, end_bytes}
 use Rattle.format.specs.Cutting.{is_open, ends_in, broken_cut, cut_of, next_line, after_next, lines_from, lines_in, no_ending, cut, turn, EndingSoFar}
 use Rattle.format.specs.declared.Cut.{Cut}
+use Rattle.format.specs.declared.LineEnd.{LineEnd}
+use Rattle.format.specs.contracts.LineEnd.{the_type}
+use denote.Enum.Bare.{sameb}
+
+-- ## Which line may follow
+
+pub no_end_lem : {line : EndingSoFar} (e : EndingSoFar) → line ≡ None → false ≡ is_open e line
+no_end_lem e h = rw h
+
+pub first_end : {so_far line : EndingSoFar} {z : LineEnd} → so_far ≡ None → line ≡ Some z → true ≡ is_open so_far line
+first_end {z = z} h k = rw (h, k) (by z)
+  where
+    by : (z : LineEnd) → true ≡ is_open None (Some z)
+    by CrLf = refl
+    by Lf = refl
+
+pub same_end : {so_far line : EndingSoFar} {x z : LineEnd} {b : Bool} → so_far ≡ Some x → line ≡ Some z → b ≡ sameb the_type x z → b ≡ is_open so_far line
+same_end {x = x} {z = z} h k e = e ∙ rw (h, k) (by x z)
+  where
+    by : (x z : LineEnd) → sameb the_type x z ≡ is_open (Some x) (Some z)
+    by CrLf CrLf = refl
+    by CrLf Lf = refl
+    by Lf CrLf = refl
+    by Lf Lf = refl
+
+pub ruleset opens = (no_end_lem, first_end, same_end)
 
 -- ## The ends that there are
 

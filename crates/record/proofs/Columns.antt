@@ -86,6 +86,11 @@ module _ {A : Type 0} (c n : ℕ) (g : Result A Refusal) (h : Result A code.Faul
       by (Err UntimelyDate) = refl
       by (Err BeyondLimits) = refl
 
+-- the same for any column and any rows after it
+pub past : {A : Type 0} {n : ℕ} {h : Result A code.Fault} {x : A} (g : Result A Refusal) → number_in g ≡ n → h ≡ Ok x
+    → (c : ℕ) {B : Type 0} (f : ℕ → ℕ → B) (rs : List Row) (a : B) {y : B} → h ≡ at_column c g → y ≡ first_or f rs a → y ≡ first_or f (row c n ∷ rs) a
+past g s w c f rs a e k = passed c _ g _ e s f rs a w k
+
 -- ## Numeric columns
 
 numeric_number : (g : Result ℕ Refusal) → number_in g ≡ (numeric_read g).number
@@ -94,6 +99,9 @@ numeric_number (Err r) = refl
 
 pub number_row : {ts : List Test} (g : Result ℕ Refusal) (tests : ℕ → List Test) (w : ℕ) (m : List ℕ) → numeric_read g ≡ numeric_of tests (take w m) → leb w 18 ≡ true → tests (value_of (take w m)) ≡ ts → number_in g ≡ field_answer (numeric w) ts (take w m)
 number_row g tests w m e h k = numeric_number g ∙ of_row tests w m e h k
+
+pub value_row : (g : Result ℕ Refusal) (tests : ℕ → List Test) (w : ℕ) (m : List ℕ) → numeric_read g ≡ numeric_of tests (take w m) → leb w 18 ≡ true → number_in g ≡ field_answer (numeric w) (tests (value_of (take w m))) (take w m)
+value_row g tests w m e h = number_row g tests w m e h refl
 
 -- the value that a column handed on
 pub value_handed : {v : ℕ} (g : Result ℕ Refusal) (h : Result ℕ code.Fault) (c : ℕ) (tests : ℕ → List Test) (l : List ℕ) → numeric_read g ≡ numeric_of tests l → h ≡ at_column c g → h ≡ Ok v → v ≡ value_of l

@@ -1,5 +1,5 @@
 -- The first fault of a transaction, from what calls answered of its fields, and a batch's maxima. Assumes nothing.
-use Rattle.std.specs.Prelude.{Some, None, Result}
+use Rattle.std.specs.Prelude.{Some, None, Result, Err}
 use Prim.Native.Nat.{ℕ, ◌+◌, ◌<◌, ◌≤◌, zero-le, min}
 use mathlib.Core.Path.{◌≡◌, refl, sym, ap, ◌∙◌}
 use mathlib.Core.List.{List, [], ◌∷◌}
@@ -13,6 +13,7 @@ use Rattle.machine.specs.Digits.{value_of}
 use Rattle.format.specs.Fields.{Field, numeric, filled, width, well_formed}
 use Rattle.format.specs.Answers.{above_maximum, number_in}
 use Rattle.format.specs.declared.Refusal.{Refusal}
+use Rattle.format.specs.declared.Refusal.TheVariants.{AboveMaximum}
 use Rattle.format.specs.Records.{layout, type, amount}
 use Rattle.format.specs.Rules.{max_amount, max_total, max_items, max_account, type_of, is_type, is_unchecked_type, TypeRead}
 use Rattle.format.specs.Tests.{Tests, type_tests, party_tests, transaction_tests}
@@ -21,7 +22,8 @@ use Rattle.format.specs.declared.Group.{Group}
 use Rattle.field.specs.Rows.{Row, row, part_at, field_answer, rows_at, check_rows, first_or}
 use Rattle.field.specs.Leaf.{numeric_of, numeric_read}
 use Rattle.record.proofs.Columns.{number_row}
-use Rattle.record.specs.Faults.{Fault}
+use Rattle.record.specs.Faults.{Fault, at_column, fault_read}
+use Rattle.record.specs.declared.Fault as code
 use Rattle.record.specs.declared.Before.{Before}
 use Rattle.record.specs.declared.Batch.{Batch}
 use Rattle.record.specs.declared.TransactionFields.{TransactionFields}
@@ -31,6 +33,9 @@ use Rattle.record.specs.Read.{transaction_for, refused_transaction, transaction_
 use Rattle.record.proofs.Faulting.{rows_all, no_faults, in_range_lem}
 
 -- ## A batch's maxima
+
+pub above_at : {A : Type 0} {r : Result A code.Fault} (column : ℕ) → r ≡ at_column column (Err AboveMaximum) → fault_read r ≡ fault_at column above_maximum
+above_at column e = ap fault_read e
 
 module _ {x : Fault} (b : Batch) (next : ℕ) where
   pub too_many : max_items ≤ b.items → x ≡ fault_at 1 above_maximum → x ≡ maxima_fault b next

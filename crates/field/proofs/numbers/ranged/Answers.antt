@@ -1,8 +1,9 @@
-use Rattle.field.proofs.Results.{results}
+use Rattle.field.proofs.Picks.{pick_yes, pick_no}
+use Rattle.field.proofs.Results.{of_passed}
 use Rattle.field.proofs.numbers.ranged.Goals as goal
 
 pub returns-then-low-value : goal.returns-then-low-value
-returns-then-low-value c = search (results, c.in_ok-value.was) depth 4 fits 10000
+returns-then-low-value c = search (of_passed, pick_yes, c.in_ok-value.was) depth 3
 
 pub returns : goal.returns
-returns c = search (results, c.in_ok-value.was) depth 4 fits 10000
+returns c = search (of_passed, pick_no, c.in_ok-value.was) depth 3
