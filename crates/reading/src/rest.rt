@@ -12,13 +12,16 @@ impl State {
     {
         let judged = self.lines(bytes);
         let next = judged.next;
-        let answer = match judged.last {
-            Ok(_) => next.ended(),
-            Err(fault) => refused_after(next.line, fault),
-        };
+        let totals = next.totals;
+        if let Err(fault) = judged.last {
+            return FileRead {
+                answer: refused_after(next.line, fault),
+                totals,
+            };
+        }
         FileRead {
-            answer,
-            totals: next.totals,
+            answer: next.ended(),
+            totals,
         }
     }
 }

@@ -1,14 +1,11 @@
 use Rattle.reading.proofs.Answers.{all_named, all_refused, all_taken}
-use mathlib.Core.Path.{◌∙◌}
-use Rattle.reading.proofs.State.rest.Goals.{in-Ok, in-Err}
 use Rattle.reading.proofs.State.rest.Goals as goal
 
-pub refused_after-answer-requires : goal.refused_after-answer-requires
-refused_after-answer-requires c = all_named _ _ _ c.lines-judged.ensures c.in-Err.is
+pub refused_after-requires : goal.refused_after-requires
+refused_after-requires c = search all_named depth 2
+
+pub returns-in-Err : goal.returns-in-Err
+returns-in-Err c = search all_refused depth 2
 
 pub returns : goal.returns
-returns c =
-    elim c.match-judged.branch [
-      in-Ok w ↦ all_taken _ _ _ c.lines-judged.ensures w.in-Ok.is (w.answer-is ∙ w.ended-answer.ensures)
-    | in-Err w ↦ all_refused _ _ _ c.lines-judged.ensures w.in-Err.is (w.answer-is ∙ w.refused_after-answer.ensures)
-    ]
+returns c = search all_taken depth 2

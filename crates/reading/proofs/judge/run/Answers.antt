@@ -10,16 +10,16 @@ overflow_add-at c =
     search rules
 
 pub loop-at-smaller : goal.loop-at-smaller
-loop-at-smaller c = loop_less c.loop-at.invariant.1 c.loop-at-test.true _ c.judge_first-judged.ensures (last_is c.in-Ok.is c.in-Some.is)
+loop-at-smaller c = search (loop_less, last_is) depth 3
 
 pub loop-at-preserved : goal.loop-at-preserved
-loop-at-preserved c = (going_after _ _ c.judge_first-judged.ensures c.loop-at.invariant.0, loop_more c.loop-at.invariant.1 c.loop-at-test.true _ c.judge_first-judged.ensures (last_is c.in-Ok.is c.in-Some.is))
+loop-at-preserved c = (going_after _ _ c.judge_first-judged.ensures c.loop-at.invariant.0, search (loop_more, last_is) depth 3)
 
 pub returns-in-None : goal.returns-in-None
-returns-in-None c = loop_none c.loop-at.invariant.1 c.loop-at-test.true _ c.judge_first-judged.ensures (last_is c.in-Ok.is c.in-None.is)
+returns-in-None c = search (loop_none, last_is) depth 3
 
 pub returns-in-Err : goal.returns-in-Err
-returns-in-Err c = loop_refused c.loop-at.invariant.1 c.loop-at-test.true _ c.judge_first-judged.ensures c.in-Err.is
+returns-in-Err c = search loop_refused depth 2
 
 pub returns : goal.returns
-returns c = run_all c.loop-at.invariant.1 c.loop-at-test.false
+returns c = search run_all depth 2
