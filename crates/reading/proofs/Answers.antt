@@ -6,9 +6,9 @@ use mathlib.Core.Path.{◌≡◌, refl, sym, ap, ap₂, ◌∙◌, subst}
 use mathlib.Core.List.{List, [], ◌∷◌}
 use mathlib.Core.Bool.{Bool, true, false}
 use native.Mathlib.Omega.{arith}
-use borrow.Author.Tests.{eq-eqb, ne_eqb, eqb-true, leb-true}
+use borrow.Author.Tests.{eq-eqb, ne_eqb, eqb-true}
 use lib.ListN.{length, take}
-use lib.Dec.{T, eqb, leb}
+use lib.Dec.{T, eqb}
 use mir.Val.{Fits}
 use mir.Syntax.{w64}
 use Rattle.machine.specs.Lists.{pick}
@@ -72,11 +72,6 @@ step_judged s xs h = rw (step_first s xs h) (by (first s xs))
     by (beyond w) = (refl, refl)
     by (halted w c n z) = (refl, refl)
     by (moved w k c a f) = (refl, refl)
-
-pub step_none : {x : LineRead} {a : Answer} (s : State) (xs : List ℕ) → length xs ≡ 0 → a ≡ ended_at s → x ≡ nothing_read s a → x ≡ step_at s xs
-unfolding step_at
-step_none s [] h e f = f ∙ ap (nothing_read s) e
-step_none s (x ∷ xs) h e f = absurd (omega arith)
 
 -- the line that a refusal names
 name_small : (n l : ℕ) → ((n ≡ 24 → ⊥) → l ≤ 6999369995) → refusal_line n l ≤ 6999369996

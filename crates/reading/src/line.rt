@@ -8,8 +8,8 @@ use crate::judge::is_within;
 use crate::{LineRead, State};
 use field::bytes::{next_line, part};
 use format::{Answer, Refusal};
-use record::{Fault, Record};
 use record::read::{record_in, text_in};
+use record::{Fault, Record};
 
 // What is answered to a fault of the line after that one: 24 names no line.
 pub(crate) fn refused_after(line: u64, fault: Fault) -> Answer

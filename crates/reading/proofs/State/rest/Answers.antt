@@ -9,6 +9,6 @@ refused_after-answer-requires c = all_named _ _ _ c.lines-judged.ensures c.in-Er
 pub returns : goal.returns
 returns c =
     elim c.match-judged.branch [
-      in-Ok w ↦ all_taken _ _ _ c.lines-judged.ensures w.in-Ok.is (w.answer-is ∙ w.ended-answer.ensures)
-    | in-Err w ↦ all_refused _ _ _ c.lines-judged.ensures w.in-Err.is (w.answer-is ∙ w.refused_after-answer.ensures)
+      | in-Ok w ↦ all_taken _ _ _ c.lines-judged.ensures w.in-Ok.is (w.answer-is ∙ w.ended-answer.ensures)
+      | in-Err w ↦ all_refused _ _ _ c.lines-judged.ensures w.in-Err.is (w.answer-is ∙ w.refused_after-answer.ensures)
     ]
