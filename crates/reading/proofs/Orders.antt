@@ -1,5 +1,5 @@
 -- The order of records: what calls answered, put together. Assumes nothing.
-use mathlib.Core.Path.{◌≡◌, refl, ap₂, ◌∙◌}
+use mathlib.Core.Path.{◌≡◌, refl, ap, ap₂, ◌∙◌}
 use denote.Enum.Bare.{sameb}
 use denote.Enum.Declared.{tag_of}
 use lib.Dec.{eqb}
@@ -49,6 +49,9 @@ stages a b e = e ∙ ap₂ eqb (stage_tag a) (stage_tag b)
 
 pub names : {x : Bool} (a b : Name) → x ≡ sameb name.the_type a b → x ≡ is_name a b
 names a b e = e ∙ ap₂ eqb (name_tag a) (name_tag b)
+
+pub no_names : {x : Bool} (a b : Name) → x ≡ not (sameb name.the_type a b) → x ≡ not (is_name a b)
+no_names a b e = e ∙ ap not (names a b refl)
 
 pub groups : {x : Bool} (a b : Group) → x ≡ sameb group.the_type a b → x ≡ same_group a b
 groups a b e = e ∙ same_is a b

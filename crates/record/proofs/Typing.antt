@@ -4,7 +4,6 @@ use Prim.Native.Nat.{ℕ}
 use mathlib.Core.Path.{◌≡◌, refl, sym, ap, ◌∙◌}
 use mathlib.Core.List.{List}
 use mathlib.Core.Bool.{Bool, true, false, not}
-use mathlib.Core.Logic.{◌⊎◌, inl, inr}
 use Rattle.machine.specs.Lists.{pick, same}
 use Rattle.format.specs.Rules.{group_text, is_group, same_group, type_group, is_unchecked, is_unchecked_type, TypeRead}
 use Rattle.format.specs.Tests.{group_tests, type_tests}
@@ -13,7 +12,6 @@ use Rattle.format.specs.contracts.Group.{the_type}
 use Rattle.format.specs.declared.Group.{Group}
 use Rattle.format.specs.declared.Group.TheVariants.{Payments, Debits}
 use Rattle.format.specs.declared.TransactionType.{TransactionType}
-use Rattle.format.specs.declared.TransactionType.TheVariants.{UncheckedCreditor, UncheckedSalary, Creditor, Salary, Debit, UncheckedDebit}
 use Rattle.field.specs.Rows.{first_answer}
 use Rattle.record.specs.declared.Before.{Before}
 use Rattle.record.specs.Faults.{known_group}
@@ -89,19 +87,6 @@ type_none g e = rw e
 pub ruleset types = (type_right, type_other, type_none)
 
 -- whether a type is unchecked
-pub unchecked_yes : {t : TransactionType} → (t ≡ UncheckedCreditor) ⊎ ((t ≡ UncheckedSalary) ⊎ (t ≡ UncheckedDebit)) → true ≡ is_unchecked t
-unchecked_yes (inl e) = ap is_unchecked (sym e)
-unchecked_yes (inr (inl e)) = ap is_unchecked (sym e)
-unchecked_yes (inr (inr e)) = ap is_unchecked (sym e)
-
-pub unchecked_no : (t : TransactionType) → (t ≡ UncheckedCreditor → ⊥) → (t ≡ UncheckedSalary → ⊥) → (t ≡ UncheckedDebit → ⊥) → false ≡ is_unchecked t
-unchecked_no UncheckedCreditor a b c = absurd (a refl)
-unchecked_no UncheckedSalary a b c = absurd (b refl)
-unchecked_no Creditor a b c = refl
-unchecked_no Salary a b c = refl
-unchecked_no Debit a b c = refl
-unchecked_no UncheckedDebit a b c = absurd (c refl)
-
 pub unchecked_by : {t : TypeRead} {y : TransactionType} {b : Bool} → t ≡ Some y → b ≡ is_unchecked y → b ≡ is_unchecked_type t
 unchecked_by e h = h ∙ ap is_unchecked_type (sym e)
 
