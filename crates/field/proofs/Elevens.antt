@@ -123,5 +123,3 @@ module _ {mine : Bool} {r : Numeric} (v own : ℕ) (unchecked : Bool) where
   pub is_other : mine ≡ false → r ≡ pick (is_seven_if unchecked v) (right_of v) (wrong_as ordinary_account) → r ≡ first_of (role_tests mine own unchecked v) v
   unfolding is_own_if pick
   is_other h e = rw h e
-
-pub ruleset roles = (is_own, is_other)

@@ -53,6 +53,3 @@ of_value tests l e z = let q : numeric_answer tests l ≡ 0 = sym (ap (λ (n : N
 pub ruleset leaves = (no_row, of_row, of_value)
 
 pub ruleset rows = (row_this, row_next, row_none, leaves)
-
--- where every row has passed: with `row-this` a search through six rows breaks off
-pub ruleset rows_passed = (row_next, row_none, leaves)

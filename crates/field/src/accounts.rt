@@ -93,7 +93,8 @@ fn own_party(account: u64, own: u64) -> Result<u64, Refusal>
 
 // The other party's, which has seven digits at most where the type is unchecked.
 fn other_party(account: u64, unchecked: bool) -> Result<u64, Refusal>
-    ensures { numeric_read result ≡ pick (is_seven_if unchecked account) (right_of account) (wrong_as ordinary_account) }
+    ensures { numeric_read result
+        ≡ pick (is_seven_if unchecked account) (right_of account) (wrong_as ordinary_account) }
 {
     if unchecked & !is_seven_digits(account) {
         return Err(Refusal::OrdinaryAccount);

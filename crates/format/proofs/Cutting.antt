@@ -291,10 +291,6 @@ module _ {p : List ℕ} (xs : List ℕ) (i : ℕ) (h : i < length xs) (e : p ≡
       let l = ap length e ∙ length-take (cut_of (drop i xs)).bytes (drop i xs) in
       (omega (arith, cut_bytes (drop i xs), length-drop i xs), omega (arith, length-drop i xs))
 
-  -- less is left after it
-  pub line_less : length xs - (i + length p) < length xs - i
-  line_less = omega (arith, line_inside)
-
   pub lines_at : lines_in (drop i xs) ≡ p ∷ lines_in (drop (i + length p) xs)
   lines_at =
       let l : 0 < length (drop i xs) = rw length-drop (omega arith) in

@@ -20,13 +20,9 @@ use Rattle.descriptions.specs.Texts.{merged}
 use Rattle.descriptions.specs.declared.Descriptions.{Descriptions}
 use Rattle.items.specs.Search.{no_fields, started, after_lines}
 use Rattle.items.specs.Answering.{answered, texts_found, answered_by, room_by, is_within, answered_at, room_at, item_of, room_after}
-use Rattle.items.specs.declared.ItemFields.{ItemFields}
 use Rattle.items.specs.declared.Found.{Found}
 use Rattle.items.specs.declared.Search.{Search}
 use Rattle.items.specs.declared.ItemRead.{ItemRead}
-
-pub answered_with : {x y : ItemFields} (a : Answer) → x ≡ y → answered a x ≡ answered a y
-answered_with a e = rw e
 
 pub texts_via : {n : ℕ} {d : Descriptions} (f : Found) → n ≡ most_descriptions f.referred → d ≡ merged f.fixed f.own n → d.text ≡ texts_found f
 unfolding texts_found

@@ -73,7 +73,8 @@ impl Search {
     // With the text of a line, where the batch or the item that it tells of is open.
     fn told<F: FnOnce(Found, &[u8]) -> Found>(self, wanted: bool, text: &[u8], tell: F) -> Search
         requires { F.pre tell self.found text }
-        ensures on { wanted ≡ true → (found : Found) × F.post tell self.found text.entry found × (result ≡ finding self found) }
+        ensures on { wanted ≡ true
+            → (found : Found) × F.post tell self.found text.entry found × (result ≡ finding self found) }
         ensures off { wanted ≡ false → result ≡ self }
     {
         if wanted {

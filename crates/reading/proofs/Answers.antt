@@ -73,11 +73,6 @@ step_judged s xs h = rw (step_first s xs h) (by (first s xs))
     by (halted w c n z) = (refl, refl)
     by (moved w k c a f) = (refl, refl)
 
-pub step_none : {x : LineRead} {a : Answer} (s : State) (xs : List ℕ) → length xs ≡ 0 → a ≡ ended_at s → x ≡ nothing_read s a → x ≡ step_at s xs
-unfolding step_at
-step_none s [] h e f = f ∙ ap (nothing_read s) e
-step_none s (x ∷ xs) h e f = absurd (omega arith)
-
 -- the line that a refusal names
 name_small : (n l : ℕ) → ((n ≡ 24 → ⊥) → l ≤ 6999369995) → refusal_line n l ≤ 6999369996
 unfolding pick

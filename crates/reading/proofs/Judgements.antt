@@ -16,7 +16,6 @@ use Rattle.format.specs.Cutting.{is_open, cut_of}
 use Rattle.format.specs.Answers.{number_of, number_in}
 use Rattle.format.specs.contracts.Kind as kind
 use Rattle.format.specs.declared.Refusal.{Refusal}
-use Rattle.format.specs.declared.Refusal.TheVariants.{BrokenLine}
 use Rattle.format.specs.declared.Kind.{Kind}
 use Rattle.format.specs.declared.Kind.TheVariants.{FileHeader, BatchHeaderB, BatchHeaderC, FixedDescription, OrderingParty, Transaction, NamePayer, CityPayer, PaymentReference, Description, NameBeneficiary, CityBeneficiary, BatchTrailer, FileTrailer}
 use Rattle.format.specs.declared.Cut.{Cut}
@@ -37,7 +36,7 @@ use Rattle.record.proofs.ItemFaults.{transaction_read, transaction_refused, tran
 use Rattle.reading.specs.State.{are_within, within, Bounded, Limited}
 use Rattle.reading.specs.Bounds.{Small, Going, halt_at}
 use Rattle.reading.specs.Order.{is_stage, may_fix, may_text, may_describe, allowed}
-use Rattle.reading.specs.Step.{with_batch, next_for, paid, refused, taken, judged_by, judged_as, judged_kind, judged_code, judged_line, with_ending, with_cut, is_done, judged_first, taken_with}
+use Rattle.reading.specs.Step.{with_batch, next_for, paid, refused, taken, judged_by, judged_as, judged_kind, judged_code, judged_line, with_cut, is_done, judged_first, taken_with}
 use Rattle.reading.specs.declared.Stage.TheVariants.{Opened, Closed}
 use Rattle.reading.specs.declared.State.{State}
 use Rattle.reading.specs.Step.{Judged}
@@ -98,8 +97,6 @@ module _ {r : TransactionRead} (s : State) (line : List ℕ) (e : r ≡ transact
 
   pub pay_bounded : Small r.read
   pay_bounded = let b = transaction_bounded s.before.group s.batch.account line e in record { amount = omega (arith, b.amount); payer = omega (arith, b.payer); beneficiary = omega (arith, b.beneficiary) }
-
-pub ruleset pays = (pay_refused, pay_above, pay_taken)
 
 module _ {x : Judged} (c : Cut) (j : Judged) where
   pub cut_stop : (s : State) (f : code.Fault) → x ≡ refused s f.column (number_of f.refusal) → refused s f.column (number_of f.refusal) ≡ j → x ≡ with_cut c j
@@ -224,10 +221,6 @@ module _ (s : State) (xs : List ℕ) where
         first_broken u v = let w = going_on_lem s e z in rw (w.0, w.1, ← i, ← f, u) v
 
 -- where a call refused nothing
-pub not_refused : (g : Result ⊤ Refusal) → ((r : Refusal) → g ≡ Err r → ⊥) → number_in g ≡ 0
-not_refused (Ok x) n = refl
-not_refused (Err r) n = absurd (n r refl)
-
 pub no_fault : {o : ⊤} (g : Result ⊤ Refusal) → g ≡ Ok o → number_in g ≡ 0
 no_fault g w = ap number_in w
 

@@ -1,6 +1,6 @@
 -- Lines one after the other, and the line reader over the first. Assumes nothing.
 use Prim.Native.Nat.{ℕ, ◌+◌, ◌-◌, ◌≤◌, ◌<◌}
-use mathlib.Core.Path.{◌≡◌, refl, sym, ap, ◌∙◌, subst}
+use mathlib.Core.Path.{◌≡◌, sym, ap, ◌∙◌, subst}
 use mathlib.Core.List.{List}
 use native.Mathlib.Omega.{arith}
 use borrow.Author.Tests.{eq-eqb, ne_eqb}
@@ -11,7 +11,6 @@ use Rattle.machine.specs.Lists.{pick}
 use Rattle.machine.proofs.Base.{drop_rest}
 use Rattle.format.specs.Cutting.{cut_of, next_line, after_next, lines_in}
 use Rattle.format.proofs.Cutting.{cut_bytes, next_fifty, cut_own, whole_long, lines_first, lines_none}
-use Rattle.reading.specs.Bounds.{Going}
 use Rattle.std.specs.Prelude.{Some, None, Ok, Err, is_some}
 use Rattle.field.proofs.Results as Results
 use Rattle.record.specs.declared.Fault as code
@@ -42,9 +41,6 @@ lines_on j xs h = ap (judged_after j) (lines_first xs h) ∙ ap (λ i. going_on 
 -- the lines from a place on, after the last one read, come to what all do
 pub record Running (start : State) (bytes : List ℕ) (last : Judged) (at : ℕ) : Type 0 where
   pub rest : judged_after last (lines_in (drop at bytes)) ≡ judged_after (refused start 0 0) (lines_in bytes)
-
-pub run_none : (start : State) (bytes : List ℕ) → Running start bytes (refused start 0 0) 0
-run_none start bytes = record { rest = refl }
 
 pub run_all : {start : State} {bytes : List ℕ} {last : Judged} {at : ℕ} → Running start bytes last at → length bytes ≤ at → last ≡ judged_after (refused start 0 0) (lines_in bytes)
 unfolding judged_after
