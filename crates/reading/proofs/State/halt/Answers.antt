@@ -11,4 +11,4 @@ pub returns-in-Done : goal.returns-in-Done
 returns-in-Done c = search halt_done depth 3
 
 pub returns-in_default : goal.returns-in_default
-returns-in_default c = halt_other _ c.requires c.if-self-gt-MAX_LINE.false c.in_default.not-Closed c.in_default.not-Done
+returns-in_default c = search (halt_other, c.in_default.not-Closed, c.in_default.not-Done) depth 2
