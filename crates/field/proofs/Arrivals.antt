@@ -15,7 +15,7 @@ use Rattle.machine.specs.Lists.{pick, in_range}
 use Rattle.machine.proofs.Base.{and_l, and_r, of_eq}
 use Rattle.format.specs.Rules.{days_in, is_date}
 use Rattle.field.specs.Rows.{first_answer}
-use Rattle.format.specs.Arrival.{days_of_months, days_of_years, day_number, days_ahead, is_near, is_timely, arrival_tests, Arrival}
+use Rattle.format.specs.Arrival.{days_of_months, days_of_years, day_number, days_ahead, is_near, is_timely, is_possible, arrival_tests, Arrival}
 
 -- ## The months before
 
@@ -176,3 +176,13 @@ pub zeros_pass : (t : Arrival) (v : ℕ) → v ≡ 0 → 0 ≡ first_answer (arr
 unfolding is_timely pick
 zeros_pass None v e = refl
 zeros_pass (Some d) v e = rw e
+
+-- ## By cases of the arrival
+
+pub possible_on : {t : Arrival} {d : ℕ} {b : Bool} → t ≡ Some d → b ≡ is_date d → b ≡ is_possible t
+unfolding is_possible
+possible_on e h = h ∙ ap is_possible (sym e)
+
+pub possible_none : {t : Arrival} → t ≡ None → true ≡ is_possible t
+unfolding is_possible
+possible_none e = ap is_possible (sym e)

@@ -1,12 +1,9 @@
 -- What arrival::is_possible ensures.
-use Rattle.std.proofs.Common.{rules}
-use Rattle.format.specs.Arrival.{is_possible}
+use Rattle.field.proofs.Arrivals.{possible_on, possible_none}
 use Rattle.field.proofs.arrival.is_possible.Goals as goal
 
 pub returns-in-None : goal.returns-in-None
-unfolding is_possible
-returns-in-None c = search rules
+returns-in-None c = search (possible_on, possible_none) depth 2
 
 pub returns-in-Some : goal.returns-in-Some
-unfolding is_possible
-returns-in-Some c = search rules
+returns-in-Some c = search (possible_on, possible_none) depth 2
