@@ -12,7 +12,7 @@ use record::kinds::code_of;
 use std::process::ExitCode;
 use std::rt::Env;
 use streams::{Input, Printed, Program, TakesLines};
-use telling::{put_field, put_name, put_words};
+use telling::{field_name, input_name, words};
 
 // How many bytes are printed of a file at most.
 const PAGE: usize = 8192;
@@ -53,22 +53,20 @@ impl Extent {
         }
     }
 
-    fn after_byte(self, b: u8) -> Extent {
+    // As much of the line as stands at the front, up to its byte 10.
+    fn after(self, bytes: &[u8]) -> Extent {
         let mut m = self;
         if m.ended {
             return m;
         }
-        if b == 10 {
-            m.ended = true;
-            return m;
+        let end = bytes.iter().position(|b| *b == b'\n');
+        let line = part(bytes, 0, end.unwrap_or(bytes.len()));
+        m.ended = end.is_some();
+        m.length = m.length.saturating_add(line.len() as u64);
+        if let Some(last) = line.last() {
+            m.last = *last;
         }
-        m.length = m.length.saturating_add(1);
-        m.last = b;
         m
-    }
-
-    fn after(self, bytes: &[u8]) -> Extent {
-        bytes.iter().fold(self, |m, b| m.after_byte(*b))
     }
 
     // The bytes before a line's end, which is 13 and 10, or 10 alone.
@@ -130,7 +128,7 @@ fn put_where(page: &mut Page<PAGE>, answer: Answer, code: Option<Kind>) {
         page.text(b", column ");
         page.digits(answer.column as u64, 1);
         page.text(b", ");
-        put_field(page, code, answer.column);
+        page.text(field_name(code, answer.column).as_bytes());
     }
 }
 
@@ -161,7 +159,7 @@ fn put_how(page: &mut Page<PAGE>, m: Extent) {
 
 fn put_what(page: &mut Page<PAGE>, number: u8, m: Extent) {
     page.text(b": ");
-    put_words(page, number);
+    page.text(words(number).as_bytes());
     if number == format::BROKEN_LINE {
         put_how(page, m);
     }
@@ -211,7 +209,7 @@ fn put_acceptance(page: &mut Page<PAGE>, lines: u64, totals: Totals) {
 // What is printed of a file, and what became of that.
 fn say(rt: &HostRuntime, checked: Checked, line: LineShown, m: Extent, name: &[u8]) -> Printed {
     let mut page: Page<PAGE> = Page::blank();
-    put_name(&mut page, name);
+    page.text(input_name(name));
     if checked.answer.number == format::ACCEPTED {
         put_acceptance(&mut page, checked.answer.line, checked.state.totals);
     } else {

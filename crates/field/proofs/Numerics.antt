@@ -128,7 +128,7 @@ abbrev pub first_of : List Test → ℕ → Numeric
 first_of [] v = right_of v
 first_of (test b n ∷ ts) v = pick b (first_of ts v) (wrong_as n)
 
-first_of_lem : (ts : List Test) (v : ℕ) → Numbered ts → first_of ts v ≡ numeric_by (first_answer ts) v
+pub first_of_lem : (ts : List Test) (v : ℕ) → Numbered ts → first_of ts v ≡ numeric_by (first_answer ts) v
 unfolding pick
 first_of_lem [] v h = refl
 first_of_lem (test true n ∷ ts) v h = first_of_lem ts v h.1

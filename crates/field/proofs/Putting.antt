@@ -3,16 +3,46 @@ use Prim.Native.Nat.{ℕ, ◌+◌, ◌-◌, ◌≤◌, ◌<◌}
 use mathlib.Core.Path.{◌≡◌, refl, sym, ap, ap₂, ◌∙◌}
 use mathlib.Core.List.{List, ◌++◌, append_assoc}
 use native.Mathlib.Omega.{arith}
+use native.Mathlib.Numerals.{add-one}
+use borrow.Author.Rules.{rules}
 use borrow.Author.Tests.{le-leb, lt-leb}
-use lib.ListN.{length, take, drop, length-append}
-use lib.Seq.{paste, length-paste, take-paste, drop-paste, take_all, drop-drop}
-use Rattle.std.proofs.lemmas.Slice.{put_mid-paste}
-use borrow.Rule.Slice.PartMut.{put_mid}
+use lib.ListN.{length, get_or, set, take, drop, length-set, length-append}
+use lib.Seq.{paste, paste-zero, paste-suc, length-paste, take-paste, drop-paste, take_all, drop-drop}
 use Rattle.machine.specs.Lists.{pick, pasted, put_in}
 
 whole : (room : List ℕ) (at : ℕ) (text : List ℕ) → paste room at text (length text) ≡ pasted room at text
 unfolding pasted
 whole room at text = ap (λ x. (take at room ++ x) ++ drop (at + length text) room) (take_all (length text) text (omega arith))
+
+-- ## Byte by byte
+
+-- i bytes of it stand
+pub record Putting (room text now : List ℕ) (at i : ℕ) : Type 0 where
+  pub within : i ≤ length text
+  pub fits : at + length text ≤ length room
+  pub kept : length now ≡ length room
+  pub is : now ≡ paste room at text i
+
+pub put_none : (room text : List ℕ) (at : ℕ) → at + length text ≤ length room → Putting room text room at 0
+put_none room text at h = record { within = omega arith; fits = h; kept = refl; is = paste-zero room at text }
+
+module _ {room text now : List ℕ} {at i : ℕ} (p : Putting room text now at i) where
+  pub put_more : i < length text → Putting room text (set now (at + i) (get_or text i 0)) at (i + 1)
+  put_more k =
+      record {
+        within = omega arith;
+        fits = p.fits;
+        kept = length-set now (at + i) (get_or text i 0) ∙ p.kept;
+        is = rw (add-one, p.is) (paste-suc room at text i 0 (omega (arith, p.fits)) k);
+      }
+
+  pub put_in_lem : i < length text → at + i < length now
+  put_in_lem k = omega (arith, p.kept, p.fits)
+
+  pub put_all : length text ≤ i → now ≡ pasted room at text
+  put_all k = let e : i ≡ length text = omega (arith, p.within) in p.is ∙ ap (paste room at text) e ∙ whole room at text
+
+pub ruleset puts = (put_none, put_more, put_in_lem, put_all, rules)
 
 -- ## Where it fits
 
@@ -20,9 +50,6 @@ module _ (room : List ℕ) (at : ℕ) (text : List ℕ) where
   pub put_fitting : {o : List ℕ} → at ≤ length room → length text ≤ length room - at → o ≡ pasted room at text → o ≡ put_in room at text
   unfolding put_in pick
   put_fitting h k e = e ∙ rw (le-leb (at + length text) (length room) (omega arith)) refl
-
-  pub put_part : {part : List ℕ} → at ≤ length room → length text ≤ length room - at → part ≡ text → put_mid at ((at + length text) - at) room part ≡ put_in room at text
-  put_part {part} h k e = put_fitting h k (put_mid-paste at ((at + length text) - at) room part text (length text) e (omega arith) refl ∙ whole room at text)
 
   pub put_beyond : length room < at → room ≡ put_in room at text
   unfolding put_in pick

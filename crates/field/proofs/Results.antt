@@ -16,8 +16,8 @@ use Rattle.format.specs.Tests.{Test}
 use Rattle.format.specs.declared.Refusal.{Refusal}
 use Rattle.format.specs.declared.Refusal.TheVariants.{BrokenLine, UnknownRecord, MisplacedRecord, WrongForm, WrongValue, WrongAccount, Differs, AboveMaximum, WrongTrailer, EndsEarly, AfterTrailer, NoRoom, NoSuchItem, OrdinaryAccount, UntimelyDate, BeyondLimits}
 use Rattle.field.specs.Rows.{first_answer, field_answer}
-use Rattle.field.specs.Leaf.{Numeric, right_of, wrong_as, numeric_by, no_tests, no_digits, digits_of, formed, numeric_answer, numeric_of, numeric_read}
-use Rattle.field.proofs.Numerics.{Extends, Numbered, first_of, after}
+use Rattle.field.specs.Leaf.{Numeric, right_of, wrong_as, numeric_by, no_tests, no_digits, digits_for, digits_of, tested_by, formed, numeric_answer, numeric_of, numeric_read}
+use Rattle.field.proofs.Numerics.{Extends, Numbered, first_of, first_of_lem, after}
 use Rattle.field.proofs.Numerics as the
 use Rattle.field.proofs.Forms.{form_stop, form_on}
 use Rattle.field.proofs.Picks.{picks}
@@ -71,7 +71,18 @@ module _ (base tests : ℕ → List Test) (l : List ℕ) (h : (v : ℕ) → Exte
     pub of_passed : {y : Numeric} → ((u : ℕ) → Numbered (after (base u) (tests u))) → y ≡ first_of (after (base v) (tests v)) v → y ≡ numeric_of tests l
     of_passed n k = the.of_on base tests l h e n (ap (λ (g : Result ℕ Refusal). (numeric_read g).number) w) (k ∙ sym (ap (λ (g : Result ℕ Refusal). first_of (after (base (numeric_read g).value) (tests (numeric_read g).value)) (numeric_read g).value) w))
 
+    -- the tests of the value, by a call
+    pub of_tested : {y : Numeric} → ((u : ℕ) → Numbered (after (base u) (tests u))) → after (base v) (tests v) ≡ tests v → y ≡ tested_by tests (digits_for v) → y ≡ numeric_of tests l
+    unfolding tested_by pick
+    of_tested n d k = of_passed n (k ∙ sym (first_of_lem (tests v) v (subst Numbered d (n v))) ∙ sym (ap (λ ts. first_of ts v) d))
+
 pub ruleset results = (no_handed, of_handed, no_passed, of_passed, picks)
+
+-- ## Tests of a number that digits stand for
+
+pub tested : {y : Numeric} (tests : ℕ → List Test) (v : ℕ) → Numbered (tests v) → y ≡ first_of (tests v) v → y ≡ tested_by tests (digits_for v)
+unfolding tested_by pick
+tested tests v n k = k ∙ first_of_lem (tests v) v n
 
 -- ## Digits, and the form of a text
 

@@ -22,6 +22,10 @@ pub record Numeric : Type 0 where
 abbrev pub no_digits : Digits
 no_digits = record { ok = false; value = 0 }
 
+-- a number that digits stand for
+abbrev pub digits_for : ℕ → Digits
+digits_for v = record { ok = true; value = v }
+
 unfoldable pub digits_of : List ℕ → Digits
 digits_of l = pick (leb (length l) 18 && all is_digit l) (record { ok = true; value = value_of l }) no_digits
 

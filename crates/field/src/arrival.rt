@@ -8,6 +8,8 @@ ghost use Rattle.field.specs.Rows.{first_answer};
 use crate::dates::{days_in, is_date};
 use format::Refusal;
 
+pub const UNTIMELY_DATE: u8 = 21;
+
 // The days of the months before this one.
 fn days_before(month: u64, year: u64) -> u64
     requires from { 1 ≤ month }

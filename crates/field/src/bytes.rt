@@ -1,5 +1,5 @@
 // Bytes of a slice. No fold ends early, so that the compiler can take many bytes at a time.
-ghost use Rattle.std.specs.Prelude.{◌≡◌, ℕ, Bool, take, drop};
+ghost use Rattle.std.specs.Prelude.{◌≡◌, ◌+◌, ◌≤◌, ℕ, Bool, length, take, drop};
 ghost use Rattle.machine.specs.Lists.{all, same, pasted, put_in, is_digit, is_space};
 ghost use Rattle.field.specs.Bytes.{Answers};
 ghost use Rattle.format.specs.Cutting.{next_line};
@@ -63,11 +63,21 @@ pub(crate) fn is_left_justified(s: &[u8]) -> bool
     s.first().is_some_and(|b| *b != b' ')
 }
 
+// Byte by byte: copy_from_slice would have the library for other languages ask for one more function of C's.
+fn copy(text: &[u8], at: usize, room: &mut [u8])
+    requires { at + length text.now ≤ length room.old }
+    ensures { room.new ≡ pasted room.old at text.now }
+{
+    for i in 0..text.len() {
+        room[at + i] = text[i];
+    }
+}
+
 // A text in a room from an offset on. Where it does not fit, the room stays as it was.
 pub fn put(text: &[u8], at: usize, room: &mut [u8])
     ensures { room.new ≡ put_in room.old at text.now }
 {
     if at <= room.len() && text.len() <= room.len() - at {
-        room[at..at + text.len()].copy_from_slice(text);
+        copy(text, at, room);
     }
 }

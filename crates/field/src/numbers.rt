@@ -4,7 +4,7 @@ ghost use Rattle.machine.specs.Lists.{all, is_digit};
 ghost use Rattle.machine.specs.Digits.{decimal, value_of};
 ghost use Rattle.format.specs.Tests.{range_tests, total_tests, equal_tests};
 ghost use Rattle.format.specs.Answers.{number_in};
-ghost use Rattle.field.specs.Leaf.{no_tests, numeric_read, numeric_answer, numeric_of};
+ghost use Rattle.field.specs.Leaf.{digits_for, tested_by, no_tests, numeric_read, numeric_answer, numeric_of};
 
 use crate::bytes::{is_digits, part};
 use format::Refusal;
@@ -51,16 +51,23 @@ pub fn digits_at(line: &[u8], at: usize, width: usize) -> Result<u64, Refusal>
     digits_in(part(line, at, width))
 }
 
+// A number from low to high.
+pub fn in_range(value: u64, low: u64, high: u64) -> Result<u64, Refusal>
+    ensures { numeric_read result ≡ tested_by (range_tests low high) (digits_for value) }
+{
+    if (low <= value) & (value <= high) {
+        return Ok(value);
+    }
+    Err(Refusal::WrongValue)
+}
+
 // A field of digits that stand for a number from low to high.
 #[tactic(auto, using(crate::proofs::Results::results))]
 pub fn ranged(line: &[u8], at: usize, width: usize, low: u64, high: u64) -> Result<u64, Refusal>
     ensures { numeric_read result ≡ numeric_of (range_tests low high) (take width (drop at line.now)) }
 {
     let value = digits_at(line, at, width)?;
-    if (low <= value) & (value <= high) {
-        return Ok(value);
-    }
-    Err(Refusal::WrongValue)
+    in_range(value, low, high)
 }
 
 // A trailer's number: from low to high, and the right one.

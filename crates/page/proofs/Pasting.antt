@@ -18,15 +18,15 @@ module _ (page : List ℕ) (at : ℕ) (text : List ℕ) where
   unfolding with_text pick
   text_fits h = rw (le-leb (at + length text) (length page) h) refl
 
-module _ {r : Bool} {q : List ℕ × ℕ} (page : List ℕ) (at : ℕ) (text : List ℕ) (v : (page, at) ≡ q) (e : r ≡ leb (q.1 + length text) (length q.0)) where
-  pub text_put : {p : List ℕ} → r ≡ true → p ≡ put_in page at text → (p, at + length text) ≡ with_text q text
+module _ {r : Bool} (page : List ℕ) (at : ℕ) (text : List ℕ) (e : r ≡ leb (at + length text) (length page)) where
+  pub text_put : {p : List ℕ} → r ≡ true → p ≡ put_in page at text → (p, at + length text) ≡ with_text (page, at) text
   text_put h d =
-      let k : at + length text ≤ length page = leb-true (at + length text) (length page) (ap (λ u. leb (u.1 + length text) (length u.0)) v ∙ sym e ∙ h) in
-      ap (λ u. (u, at + length text)) (put_fits page at text k d) ∙ sym (text_fits page at text k) ∙ ap (λ u. with_text u text) v
+      let k : at + length text ≤ length page = leb-true (at + length text) (length page) (sym e ∙ h) in
+      ap (λ u. (u, at + length text)) (put_fits page at text k d) ∙ sym (text_fits page at text k)
 
-pub text_left : {r : Bool} (q : List ℕ × ℕ) (text : List ℕ) → r ≡ leb (q.1 + length text) (length q.0) → r ≡ false → q ≡ with_text q text
-unfolding with_text pick
-text_left q text e h = rw (← e, h) refl
+  pub text_left : r ≡ false → (page, at) ≡ with_text (page, at) text
+  unfolding with_text pick
+  text_left h = rw (← e, h) refl
 
 -- ## A line
 
@@ -56,4 +56,4 @@ module _ {r : Bool} (q : List ℕ × ℕ) (key text : List ℕ) (e : r ≡ leb (
   pub line_left : r ≡ false → q ≡ with_text q (line_of key text)
   line_left h =
       let l : length key + length text + 1 ≡ length (line_of key text) = rw (length-append, length-append) (omega arith) in
-      text_left q (line_of key text) (e ∙ ap (λ n. leb (q.1 + n) (length q.0)) l) h
+      text_left q.0 q.1 (line_of key text) (e ∙ ap (λ n. leb (q.1 + n) (length q.0)) l) h

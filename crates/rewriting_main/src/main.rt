@@ -11,7 +11,7 @@ use record::Record;
 use std::process::ExitCode;
 use std::rt::Env;
 use streams::{BUFFER, Input, Lines, NO_MORE, Printed, Program, Source, TakesLines};
-use telling::put_name;
+use telling::input_name;
 use writer::Entry;
 
 // A file so far: the answer to the last line, the reader's state after it and the writer's, the page that it is written
@@ -140,7 +140,7 @@ fn is_told(rt: &HostRuntime, checked: Checked, name: &[u8], several: bool) -> bo
 // A file that was accepted is another one now.
 fn tell_changed(rt: &HostRuntime, name: &[u8]) {
     let mut page: Page<8192> = Page::blank();
-    put_name(&mut page, name);
+    page.text(input_name(name));
     page.text(b": it changed while it was read\n");
     let _ = rt.stderr().write_all(page.filled());
 }

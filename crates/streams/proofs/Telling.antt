@@ -11,6 +11,9 @@ use Rattle.std.specs.declared.io.ErrorKind.{ErrorKind}
 use Rattle.std.specs.declared.io.ErrorKind.TheVariants.{BrokenPipe}
 use Rattle.std.specs.declared.env.FillError.TheVariants.{NotPresent}
 use mathlib.Core.Bool.{false}
+use native.Mathlib.Omega.{arith}
+use lib.ListN.{length-take}
+use Rattle.streams.specs.Counts.{IsPrefixLen}
 use Rattle.streams.specs.Opened.{is_given}
 use Rattle.streams.specs.Status.{failed_by, printed_of}
 use Rattle.streams.specs.declared.output.Printed.TheVariants.{Whole, Failed, Unread}
@@ -35,6 +38,9 @@ module _ {A : Type 0} {w : Result A Error} where
 
 pub prefix_length : {w : Result ℕ FillError} (n : ℕ) (xs : List ℕ) → WritesAtMost w xs → w ≡ Ok n → n ≡ length (take n xs)
 prefix_length n xs h e = sym (length-take-le n xs (subst (λ v. WritesAtMost v xs) e h))
+
+pub part_fits : {x : List ℕ} (n : ℕ) (xs : List ℕ) → x ≡ take n xs → IsPrefixLen (length x) xs
+part_fits n xs e = rw e ((rw length-take (omega arith)), (rw (length-take, length-take) (omega arith)))
 
 pub given_not : {r : Result ℕ FillError} {x : FillError} → r ≡ Err x → x ≡ NotPresent → false ≡ is_given r
 given_not e h = sym (ap is_given e ∙ ap (λ y. is_given (Err y)) h)

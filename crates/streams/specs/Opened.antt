@@ -1,5 +1,5 @@
 -- What an input is read from, and whether there is an argument that names it.
-use Rattle.std.specs.Prelude.{ℕ, Bool, true, false, Option, Some, None, Result, Ok, Err}
+use Rattle.std.specs.Prelude.{◌≡◌, ℕ, Bool, true, false, Option, Some, None, Result, Ok, Err}
 use Rattle.std.specs.declared.env.FillError.{FillError}
 use Rattle.std.specs.declared.env.FillError.TheVariants.{NotPresent, TooLong}
 use Rattle.streams.specs.declared.input.Input.{Input}
@@ -28,3 +28,8 @@ abbrev pub is_given : Result ℕ FillError → Bool
 is_given (Ok _) = true
 is_given (Err NotPresent) = false
 is_given (Err TooLong) = true
+
+-- what stands for an input once more is open, and has its name
+abbrev pub IsOnceMore : Input → Option Input → Type 0
+IsOnceMore i None = Unit {0}
+IsOnceMore i (Some again) = (is_open again ≡ true) × (again.name.now ≡ i.name.now)

@@ -1,6 +1,6 @@
 // Standard input opened once more, as a file of its own that can go back: the descriptor itself only goes on here.
 ghost use Rattle.std.specs.Prelude.{◌≡◌, true, IsSome};
-ghost use Rattle.streams.specs.Opened.{is_standard};
+ghost use Rattle.streams.specs.Opened.{is_standard, IsOnceMore};
 
 use crate::{Input, Reader};
 use std::fs::File;
@@ -37,7 +37,8 @@ fn opened_anew(rt: &HostRuntime) -> io::Result<File> {
 // Standard input that is a file once more, at the offset where it stands, for its second reading; nothing of any other
 // input. What is read from it does not move the offset that standard input shares with whoever started the program.
 pub fn anew<'a>(rt: &HostRuntime, input: &Input<'a>) -> Option<Input<'a>>
-    ensures { IsSome result → is_standard input.now ≡ true }
+    ensures standard { IsSome result → is_standard input.now ≡ true }
+    ensures again { IsOnceMore input.now result }
 {
     match input.reader {
         Some(Reader::StandardInput(_)) => opened_anew(rt).ok().map(|file| Input {

@@ -76,7 +76,9 @@ fn kept(rt: &HostRuntime, input: &Input) -> Result<Reader, Told> {
 }
 
 // An input that cannot go back, in a temporary file; where it is no such input but cannot be read at all, that is told.
-fn spooled<'a>(rt: &HostRuntime, input: Input<'a>, error: Error) -> Input<'a> {
+fn spooled<'a>(rt: &HostRuntime, input: Input<'a>, error: Error) -> Input<'a>
+    ensures { result.name.now ≡ input.entry.name.now }
+{
     let reader = if error.kind() == ErrorKind::NotSeekable {
         kept(rt, &input).ok()
     } else {
@@ -91,7 +93,8 @@ fn spooled<'a>(rt: &HostRuntime, input: Input<'a>, error: Error) -> Input<'a> {
 
 // An input that can be read twice: itself, or a temporary file of the same bytes.
 pub fn rereadable<'a>(rt: &HostRuntime, input: Input<'a>) -> Source<'a>
-    ensures { result ≡ pick result.temporary (from_start result.input) (from_offset input.entry result.start) }
+    ensures from { result ≡ pick result.temporary (from_start result.input) (from_offset input.entry result.start) }
+    ensures name { result.input.name.now ≡ input.entry.name.now }
 {
     match input.position() {
         Ok(start) => Source {

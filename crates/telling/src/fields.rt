@@ -5,7 +5,7 @@ ghost use Rattle.telling.specs.Names.{name_in, name_after, field_name};
 
 use crate::looked_up;
 use format::Kind;
-use page::Page;
+use page::put_text;
 
 const FILE_HEADER: [(u8, &str); 6] = [
     (6, "creation date"),
@@ -84,7 +84,8 @@ fn name_after(code: Option<Kind>, column: u8) -> &'static str
     }
 }
 
-fn field_name(code: Option<Kind>, column: u8) -> &'static str
+// The name of the field of that record that begins at a column, and nothing where none begins.
+pub fn field_name(code: Option<Kind>, column: u8) -> &'static str
     ensures { result.now ≡ field_name code column }
 {
     if column == 1 {
@@ -93,9 +94,9 @@ fn field_name(code: Option<Kind>, column: u8) -> &'static str
     name_after(code, column)
 }
 
-// The name of the field of that record that begins at a column onto a page, and nothing where none begins.
-pub fn put_field<const N: usize>(page: &mut Page<N>, code: Option<Kind>, column: u8)
-    ensures { page.new ≡ with_text page.old (field_name code column) }
+// The same onto a lent page.
+pub fn put_field(page: &mut [u8], at: usize, code: Option<Kind>, column: u8) -> usize
+    ensures { (page.new, result) ≡ with_text (page.old, at) (field_name code column) }
 {
-    page.text(field_name(code, column).as_bytes());
+    put_text(page, at, field_name(code, column).as_bytes())
 }

@@ -3,9 +3,10 @@ ghost use Rattle.std.specs.Prelude.{◌≡◌};
 ghost use Rattle.page.specs.Lines.{with_text};
 ghost use Rattle.telling.specs.Names.{input_name};
 
-use page::Page;
+use page::put_text;
 
-fn input_name(name: &[u8]) -> &[u8]
+// The name of an input; standard input has an empty one.
+pub fn input_name(name: &[u8]) -> &[u8]
     ensures { result.now ≡ input_name name.now }
 {
     if name.is_empty() {
@@ -14,9 +15,9 @@ fn input_name(name: &[u8]) -> &[u8]
     name
 }
 
-// The name of an input onto a page; standard input has an empty one.
-pub fn put_name<const N: usize>(page: &mut Page<N>, name: &[u8])
-    ensures { page.new ≡ with_text page.old (input_name name.now) }
+// The same onto a lent page.
+pub fn put_name(page: &mut [u8], at: usize, name: &[u8]) -> usize
+    ensures { (page.new, result) ≡ with_text (page.old, at) (input_name name.now) }
 {
-    page.text(input_name(name));
+    put_text(page, at, input_name(name))
 }

@@ -5,13 +5,13 @@ ghost use Rattle.std.specs.Prelude.{◌≡◌};
 ghost use Rattle.page.specs.Lines.{with_text};
 ghost use Rattle.telling.specs.Words.{looked_up, words_of};
 
-use page::Page;
+use page::put_text;
 
 mod fields;
 mod inputs;
 
-pub use fields::put_field;
-pub use inputs::put_name;
+pub use fields::{field_name, put_field};
+pub use inputs::{input_name, put_name};
 
 const WORDS: [(u8, &str); 16] = [
     (format::BROKEN_LINE, "the line is broken"),
@@ -71,15 +71,16 @@ fn looked_up(table: &'static [(u8, &'static str)], number: u8) -> &'static str
     ""
 }
 
-fn words(number: u8) -> &'static str
+// The words of an answer, and nothing of a number that is no answer's.
+pub fn words(number: u8) -> &'static str
     ensures { result.now ≡ words_of number }
 {
     looked_up(&WORDS, number)
 }
 
-// The words of an answer onto a page, and nothing of a number that is no answer's.
-pub fn put_words<const N: usize>(page: &mut Page<N>, number: u8)
-    ensures { page.new ≡ with_text page.old (words_of number) }
+// The same onto a lent page.
+pub fn put_words(page: &mut [u8], at: usize, number: u8) -> usize
+    ensures { (page.new, result) ≡ with_text (page.old, at) (words_of number) }
 {
-    page.text(words(number).as_bytes());
+    put_text(page, at, words(number).as_bytes())
 }
