@@ -48,6 +48,16 @@ refused OrdinaryAccount z = absurd (omega arith)
 refused UntimelyDate z = absurd (omega arith)
 refused BeyondLimits z = absurd (omega arith)
 
+-- ## Tests of a number that digits stand for
+
+-- the first of them that fails answers, and the number where none does
+first_tested : (tests : ℕ → List Test) (v : ℕ) → Numbered (tests v) → first_of (tests v) v ≡ tested_by tests (digits_for v)
+unfolding tested_by pick
+first_tested tests v n = first_of_lem (tests v) v n
+
+pub tested : {y : Numeric} (tests : ℕ → List Test) (v : ℕ) → Numbered (tests v) → y ≡ first_of (tests v) v → y ≡ tested_by tests (digits_for v)
+tested tests v n k = k ∙ first_tested tests v n
+
 -- ## More tests than a call made: what it refused is handed on, or the others follow
 
 module _ (base tests : ℕ → List Test) (l : List ℕ) (h : (v : ℕ) → Extends (base v) (tests v)) {f : Result ℕ Refusal} (e : numeric_read f ≡ numeric_of base l) where
@@ -73,16 +83,9 @@ module _ (base tests : ℕ → List Test) (l : List ℕ) (h : (v : ℕ) → Exte
 
     -- the tests of the value, by a call
     pub of_tested : {y : Numeric} → ((u : ℕ) → Numbered (after (base u) (tests u))) → after (base v) (tests v) ≡ tests v → y ≡ tested_by tests (digits_for v) → y ≡ numeric_of tests l
-    unfolding tested_by pick
-    of_tested n d k = of_passed n (k ∙ sym (first_of_lem (tests v) v (subst Numbered d (n v))) ∙ sym (ap (λ ts. first_of ts v) d))
+    of_tested n d k = of_passed n (k ∙ sym (first_tested tests v (subst Numbered d (n v))) ∙ sym (ap (λ ts. first_of ts v) d))
 
 pub ruleset results = (no_handed, of_handed, no_passed, of_passed, picks)
-
--- ## Tests of a number that digits stand for
-
-pub tested : {y : Numeric} (tests : ℕ → List Test) (v : ℕ) → Numbered (tests v) → y ≡ first_of (tests v) v → y ≡ tested_by tests (digits_for v)
-unfolding tested_by pick
-tested tests v n k = k ∙ first_of_lem (tests v) v n
 
 -- ## Digits, and the form of a text
 

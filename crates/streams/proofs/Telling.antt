@@ -1,7 +1,7 @@
 -- What was written, read or told, from what calls answered. Assumes nothing.
 use mathlib.Core.Path.{◌≡◌, refl, sym, ap, ◌∙◌}
 use mathlib.Core.Bool.{Bool}
-use Rattle.std.specs.Prelude.{Result, Ok, Err, is_ok, ℕ, List, length, take}
+use Rattle.std.specs.Prelude.{Result, Ok, Err, is_ok, ℕ, ◌≤◌, List, length, take}
 use Rattle.std.proofs.Common.{length-take-le, subst}
 use Rattle.std.specs.Io.{WritesAtMost}
 use Rattle.std.specs.declared.env.FillError.{FillError}
@@ -40,7 +40,9 @@ pub prefix_length : {w : Result ℕ FillError} (n : ℕ) (xs : List ℕ) → Wri
 prefix_length n xs h e = sym (length-take-le n xs (subst (λ v. WritesAtMost v xs) e h))
 
 pub part_fits : {x : List ℕ} (n : ℕ) (xs : List ℕ) → x ≡ take n xs → IsPrefixLen (length x) xs
-part_fits n xs e = rw e ((rw length-take (omega arith)), (rw (length-take, length-take) (omega arith)))
+part_fits n xs e =
+    let h : length (take n xs) ≤ length xs = rw length-take (omega arith) in
+    rw e (h, sym (length-take-le (length (take n xs)) xs h))
 
 pub given_not : {r : Result ℕ FillError} {x : FillError} → r ≡ Err x → x ≡ NotPresent → false ≡ is_given r
 given_not e h = sym (ap is_given e ∙ ap (λ y. is_given (Err y)) h)
