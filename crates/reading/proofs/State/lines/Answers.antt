@@ -1,5 +1,5 @@
 use Rattle.reading.specs.Check.{judged_lines}
-use Rattle.field.proofs.Picks.{picks}
+use Rattle.field.proofs.Picks.{pick_yes, pick_no, by_call}
 use Rattle.reading.proofs.Limits.{within_going}
 use Rattle.reading.proofs.State.lines.Goals as goal
 
@@ -9,8 +9,8 @@ run-requires c = search within_going
 
 pub returns-then-is_within : goal.returns-then-is_within
 unfolding judged_lines
-returns-then-is_within c = search picks depth 3
+returns-then-is_within c = search (pick_yes, by_call) depth 3
 
 pub returns-else-is_within : goal.returns-else-is_within
 unfolding judged_lines
-returns-else-is_within c = search picks depth 3
+returns-else-is_within c = search (pick_no, by_call) depth 3
